@@ -3,7 +3,7 @@ use denote.RattleType.{RattleType}
 use Rattle.std.proofs.Common.{◌≡◌, ◌∙◌, inl, inr, ℕ, Bool, List, [], ◌∷◌, Option, Some, None}
 use Rattle.std.proofs.Common.{Result, Ok, Err, refl, sym, subst, true, false, ◌++◌}
 use Rattle.std.proofs.KnownBytes.{Appends-trans}
-use Rattle.std.specs.Prelude.{IfOk, IfErr, IfSome, IsOk, codes}
+use Rattle.std.specs.Prelude.{IfOk, IfErr, IfSome, IsOk, OnErr, codes}
 use Rattle.std.specs.Io.KnownBytes.{Appends}
 use Rattle.sqlite_disk.specs.declared.Disk as disk
 use Rattle.sqlite_disk.specs.declared.Files.{Files}
@@ -18,6 +18,7 @@ use Rattle.s10_link.specs.declared.peer.Peer.{Peer}
 use Rattle.s10_link.specs.Trace.{new_trace}
 use Rattle.s10_ends.specs.UdpLink.{BoundLink}
 use Rattle.s10_history.specs.Settings.{Terms}
+use Rattle.s10_book.specs.declared.book_fault.BookFault.{BookFault}
 use Rattle.s10_book.specs.Book.{Unchanged}
 use Rattle.s10_ledger.specs.Ledger.{IsHonest, history_of, committed_of}
 use Rattle.s10_rows.specs.declared.open_fault.OpenFault.{OpenFault}
@@ -37,7 +38,8 @@ use Rattle.s10_host.specs.Files.{IsFoundIn, IsFileFault, IsAbsenceOr, IsNotMade,
 use Rattle.s10_host.specs.Files.{LeavesClean}
 use Rattle.s10_host.specs.Audited.{HasFound, audit_line, audit_status}
 use Rattle.s10_host.specs.Closing.{IsClosedAs, Turns}
-use Rattle.s10_host.specs.Jobs.{ledger_line, FailsByLedger, FailsByClosing, IsAskedFor, HasCreated}
+use Rattle.s10_host.specs.Jobs.{ledger_line, FailsByLedger, FailsByClosing, EndsAs, IsAskedFor}
+use Rattle.s10_host.specs.Jobs.{HasCreated, EndsServed}
 use Rattle.s10_host.specs.Jobs.{IsServed, IsUnlinked, Writes, IsReported, HasServed, HasReported}
 use Rattle.s10_host.specs.Jobs.{HasAudited, HasEnded}
 use Rattle.s10_host.specs.declared.book_job.BookJob.TheVariants.{Create, Serve, Report as ReportOn}
@@ -45,7 +47,7 @@ use Rattle.s10_host.specs.declared.book_job.BookJob.{BookJob}
 use Rattle.s10_host.specs.declared.ledger_job.LedgerJob.{LedgerJob}
 use Rattle.s10_host.specs.declared.ledger_job.LedgerJob.TheVariants.{BookJob as AsksFor, Audit}
 use Rattle.s10_host.specs.BookJobs.{IsBookJobRefusal, EndsOver, EndsIn}
-use Rattle.s10_host.proofs.Opening.{empty_book, found_book, closed_into}
+use Rattle.s10_host.proofs.Opening.{empty_book, found_book, closed_into, still_none, calls_all}
 use Rattle.s10_host.proofs.Backwards.{before_batches}
 
 -- A job over a ledger has one job on the book.
@@ -115,6 +117,13 @@ no_report true day made is issues ranges = absurd (let one = issues refl in cc)
 no_report false None made is issues ranges = (refl, refl)
 no_report false (Some d) made is issues ranges = absurd (let one = ranges d refl refl in cc)
 
+-- If no call was pending, a job ends as it was done.
+pub as_done : (committed : Result (Unit {0}) BookFault) (done result : Result JobStatus WriteFault)
+    (between new : Option (List ℕ)) → OnErr committed ⊥ → EndsAs committed done between new result
+    → (result ≡ done) × (new ≡ between)
+as_done (Ok _) done result between new never ends = ends
+as_done (Err fault) done result between new never ends = absurd never
+
 -- A ledger that could not be closed.
 pub lost_closing : {D : Type 0} (put : Result (Files D) OpenFault)
     (done result : Result JobStatus WriteFault) (new last : Option (List ℕ))
@@ -128,13 +137,14 @@ lost_closing put done (Err e) new last store says = tt
 module _ {D : Type 0} {g : disk.Ghosts D} where
   -- A ledger that was closed, and how the job ended.
   pub kept_copied : (closed : Held (FileStore D g)) (put : Result (Files D) OpenFault)
-      (files : Option (Files D)) (done result : Result JobStatus WriteFault)
-      (new last : Option (List ℕ))
-      → IfOk put (Copies closed) → IfSome files (λ f. (put ≡ Ok f) × (result ≡ done) × (last ≡ new))
-      → IfSome files (λ f. Copies closed f × (result ≡ done) × (last ≡ new))
-  kept_copied closed put None done result new last copied kept = tt
-  kept_copied closed put (Some f) done result new last copied (is, same, still) =
-      (subst (λ r. IfOk r (Copies closed)) is copied, same, still)
+      (files : Option (Files D)) (committed : Result (Unit {0}) BookFault)
+      (done result : Result JobStatus WriteFault) (new last : Option (List ℕ))
+      → IfOk put (Copies closed)
+      → IfSome files (λ f. (put ≡ Ok f) × EndsAs committed done new last result)
+      → IfSome files (λ f. Copies closed f × EndsAs committed done new last result)
+  kept_copied closed put None committed done result new last copied kept = tt
+  kept_copied closed put (Some f) committed done result new last copied (is, ends) =
+      (subst (λ r. IfOk r (Copies closed)) is copied, ends)
 
   pub refused_over : (work : BookJob) (was left : Held (FileStore D g))
       (old between new : Option (List ℕ)) (fault named : OpenFault)
@@ -170,13 +180,17 @@ module _ (S : RattleType) (first : Ghosts S.Denot) where
       absurd (let none = refused.no_files in cc)
   created terms was old between new done printed (Some g) link f is (inl over) written =
       let (book, new_book, put, result, still, none) = over.worked in
-      let (copies, same, last) = over.kept in
+      let (copies, ends) = over.kept in
+      let never = put.none_pending new_book.none_pending in
+      let (same, last) = as_done over.committed over.done done over.between between never ends in
       record {
         made = record {
           book = book;
           settings = new_book.settings;
           empty = empty_book terms book new_book;
-          closes_into = closed_into book over.closed g put copies;
+          closes_into = closed_into book over.closed over.committed [] g put
+              (λ clean opened. calls_all over_files book over.closed over.committed put never clean
+              opened ∙ new_book.empty (put.honest clean opened)) copies;
         };
         printed = subst (λ text. IfOk printed (λ status. (status ≡ Done)
             × Appends text new (codes "created\n"))) (last ∙ still) written;
@@ -238,25 +252,47 @@ module _ (S : RattleType) (first : Ghosts S.Denot) where
   was_honest day count old new opened after result link turns =
       before_batches (λ (b : FileLedger S first). b.faults) (IsHonest over_files) (λ b. b.terms)
       (history_of over_files) (committed_of over_files) day
-      (new_trace, opened) (link.trace, after) turns.batches turns.lead
+      (new_trace, opened) (link.trace, after) turns.serves.batches turns.serves.lead
+
+  -- Which calls the files of a served ledger hold.
+  ends_served : (served : FileLedger S first) (closed : FileConnection S first)
+      (committed : Result (Unit {0}) BookFault) (f : ClosedFiles S first)
+      (done result : Result JobStatus WriteFault) (new last : Option (List ℕ))
+      → IsClosedAs over_files served closed committed → Copies closed f
+      → EndsAs committed done new last result
+      → EndsServed S first served done new last result f
+  ends_served served closed (Ok u) f done result new last put copies (same, still) =
+      inl (
+        same,
+        still,
+        closed_into served closed (Ok u) (history_of over_files served) f put
+            put.whole copies,
+      )
+  ends_served served closed (Err fault) f done result new last put copies failed =
+      inr (
+        failed,
+        closed_into served closed (Err fault) (committed_of over_files served) f put
+            put.left copies,
+      )
 
   served_away : (day : Option ℕ) (count : ℕ) (old new last : Option (List ℕ))
       (opened served : FileLedger S first) (closed : FileConnection S first)
-      (done result : Result JobStatus WriteFault)
+      (committed : Result (Unit {0}) BookFault) (done result : Result JobStatus WriteFault)
       (files : Option (ClosedFiles S first)) (link : BoundLink)
       → Turns over_files day count opened served old new done link
-      → IsClosedAs over_files served closed
-      → IfSome files (λ f. Copies closed f × (result ≡ done) × (last ≡ new))
+      → IsClosedAs over_files served closed committed
+      → IfSome files (λ f. Copies closed f × EndsAs committed done new last result)
       → IfSome files (IsServed S first opened day count old last result link)
-  served_away day count old new last opened served closed done result None link turns put kept = tt
-  served_away day count old new last opened served closed done result (Some f) link turns put
-      (copies, same, still) = record {
+  served_away day count old new last opened served closed committed done result None link turns put
+      kept = tt
+  served_away day count old new last opened served closed committed done result (Some f) link turns
+      put (copies, ends) = record {
         served = served;
-        turns = subst (λ text. Turns over_files day count opened served old text result link)
-            (sym still) (subst (λ r. Turns over_files day count opened served old new r link) (sym same)
-            turns);
+        turned = done;
+        between = new;
+        turns = turns;
         was_honest = was_honest day count old new opened served done link turns;
-        closes_into = closed_into served closed f put copies;
+        ends = ends_served served closed committed f done result new last put copies ends;
       }
 
   unlinked_kept : (old new last : Option (List ℕ)) (done result : Result JobStatus WriteFault)
@@ -286,23 +322,29 @@ module _ (S : RattleType) (first : Ghosts S.Denot) where
   unlinked_lost old new last done (Err e) printed says = tt
 
   unlinked : (old new last : Option (List ℕ)) (opened after : FileLedger S first)
-      (closed : FileConnection S first) (done result : Result JobStatus WriteFault)
-      (files : Option (ClosedFiles S first))
-      → IsUnbound opened after old new done → IsClosedAs over_files after closed
-      → IfSome files (λ f. Copies closed f × (result ≡ done) × (last ≡ new))
+      (closed : FileConnection S first) (committed : Result (Unit {0}) BookFault)
+      (done result : Result JobStatus WriteFault) (files : Option (ClosedFiles S first))
+      → opened.pending ≡ [] → IsUnbound opened after old new done
+      → IsClosedAs over_files after closed committed
+      → IfSome files (λ f. Copies closed f × EndsAs committed done new last result)
       → (files ≡ None → FailsByClosing done new last result)
       → IsUnlinked S first opened old last result files
-  unlinked old new last opened after closed done result None unbound put kept lost =
+  unlinked old new last opened after closed committed done result None none unbound put kept lost =
       record {
         closes_into = tt;
         printed = tt;
         lost = λ none. unlinked_lost old new last done result
             unbound.1 (lost none);
       }
-  unlinked old new last opened after closed done result (Some f) unbound put (copies, same, still)
-      lost =
+  unlinked old new last opened after closed committed done result (Some f) none unbound put
+      (copies, ends) lost =
+      let Pending : FileLedger S first → Type 0 = λ b. b.pending ≡ [] in
+      let never = put.none_pending (subst Pending (sym unbound.0) none) in
+      let (same, still) = as_done committed done result new last never ends in
       record {
-        closes_into = subst (λ b. ClosesInto b f) unbound.0 (closed_into after closed f put copies);
+        closes_into = subst (λ b. ClosesInto b (history_of over_files b) f) unbound.0
+            (closed_into after closed committed (history_of over_files after) f put
+            (calls_all over_files after closed committed put never) copies);
         printed = unlinked_kept old new last done result unbound.1 same still;
         lost = λ none. absurd (let one : Some f ≡ None = none in cc);
       }
@@ -337,8 +379,8 @@ module _ (S : RattleType) (first : Ghosts S.Denot) where
           text,
           opened,
           found_book (image_at first) was opened found opening,
-          unlinked old over.between new opened served over.closed over.done result files
-              (unbound refl) put over.kept over.lost,
+          unlinked old over.between new opened served over.closed over.committed over.done result
+              files opening.none_pending (unbound refl) put over.kept over.lost,
         ));
       }
   served_over bind at day count was old new result files (Some l) text found (inl over) =
@@ -347,8 +389,8 @@ module _ (S : RattleType) (first : Ghosts S.Denot) where
         served = (
           opened,
           found_book (image_at first) was opened found opening,
-          served_away day count old over.between new opened served over.closed over.done result
-              files l turns put over.kept,
+          served_away day count old over.between new opened served over.closed over.committed
+              over.done result files l turns put over.kept,
           λ none. record {
             served = served;
             turned = over.done;
@@ -373,7 +415,8 @@ module _ (S : RattleType) (first : Ghosts S.Denot) where
       subst (HasServed S first bind day count old new result files) (sym gone) (record {
         served = tt;
         unlinked = λ _. inl (
-          λ peer. absurd (let some = read peer.0 (subst (λ t. SpellsPeer t peer.0) (sym same) peer.1) in
+          λ peer. absurd
+              (let some = read peer.0 (subst (λ t. SpellsPeer t peer.0) (sym same) peer.1) in
               cc),
           subst (λ r. IfOk r (λ status. (status ≡ Refused)
               × Appends old new (refused_line (codes "peer" ∷ [])))) (sym is) says,
@@ -416,21 +459,30 @@ module _ (S : RattleType) (first : Ghosts S.Denot) where
 
   reported_away : (old new last : Option (List ℕ)) (report : Report)
       (opened after : FileLedger S first) (closed : FileConnection S first)
-      (done result : Result JobStatus WriteFault) (files : Option (ClosedFiles S first))
-      → Unchanged (λ (b : FileLedger S first). history_of over_files b) (λ b. b.terms)
+      (committed : Result (Unit {0}) BookFault) (done result : Result JobStatus WriteFault)
+      (files : Option (ClosedFiles S first)) → opened.pending ≡ []
+      → Unchanged (λ (b : FileLedger S first). history_of over_files b)
+      (λ (b : FileLedger S first). committed_of over_files b) (λ b. b.terms)
       (IsHonest over_files) opened after → Writes S first report opened after old new done
-      → IsClosedAs over_files after closed
-      → IfSome files (λ f. Copies closed f × (result ≡ done) × (last ≡ new))
+      → IsClosedAs over_files after closed committed
+      → IfSome files (λ f. Copies closed f × EndsAs committed done new last result)
       → IfSome files (IsReported S first opened report old last result)
-  reported_away old new last report opened after closed done result None unchanged written put
-      kept = tt
-  reported_away old new last report opened after closed done result (Some f) unchanged written put
-      (copies, same, still) = record {
+  reported_away old new last report opened after closed committed done result None none unchanged
+      written put kept = tt
+  reported_away old new last report opened after closed committed done result (Some f) none
+      unchanged written put (copies, ends) =
+      let never : IsHonest over_files after → OnErr committed ⊥ =
+      λ h. put.none_pending (still_none over_files opened after none unchanged h) in
+      record {
         reported = after;
-        written = subst (λ text. Writes S first report opened after old text result) (sym still)
-            (subst (λ r. Writes S first report opened after old new r) (sym same) written);
+        written = λ h.
+            let (same, still) = as_done committed done result new last (never h) ends in
+            subst (λ text. Writes S first report opened after old text result) (sym still)
+            (subst (λ r. Writes S first report opened after old new r) (sym same) written) h;
         unchanged = unchanged;
-        closes_into = closed_into after closed f put copies;
+        closes_into = closed_into after closed committed (history_of over_files after) f put
+            (λ clean opened. calls_all over_files after closed committed put
+            (never (put.honest clean opened)) clean opened) copies;
       }
 
   reported_over : (is_of_issues : Bool) (day : Option ℕ) (report : Report)
@@ -480,8 +532,8 @@ module _ (S : RattleType) (first : Ghosts S.Denot) where
           asked,
           opened,
           found_book (image_at first) was opened found opening,
-          reported_away old over.between new report opened reported over.closed over.done result
-              (Some f) unchanged written put over.kept,
+          reported_away old over.between new report opened reported over.closed over.committed
+              over.done result (Some f) opening.none_pending unchanged written put over.kept,
         );
         unreported = λ gone. absurd cc;
       }

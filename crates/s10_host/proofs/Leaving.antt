@@ -1,5 +1,6 @@
 -- What a loop leaves.
-use Rattle.std.proofs.Common.{◌≡◌, sym, ap, subst, ℕ, List, [], ◌∷◌, ◌++◌, length, length-append}
+use Rattle.std.proofs.Common.{◌≡◌, ◌∙◌, sym, ap, subst, ℕ, List, [], ◌∷◌, ◌++◌, length}
+use Rattle.std.proofs.Common.{length-append, append-nil}
 use Rattle.std.proofs.Common.{Option, Result, Ok, Err, arith}
 use Rattle.std.proofs.lemmas.List.{nil_from_length}
 use Rattle.std.specs.Prelude.{IfOk}
@@ -13,7 +14,6 @@ use Rattle.s10_link.specs.Link.{LeadsTo}
 use Rattle.s10_link.specs.Trace.{new_trace}
 use Rattle.s10_history.specs.declared.entry.Entry.{Entry}
 use Rattle.s10_history.specs.Settings.{Terms}
-use Rattle.s10_book.specs.BookFault.{no_faults}
 use Rattle.s10_ledger.specs.Ledger.{Ledger, IsHonest, history_in, history_of, committed_of}
 use Rattle.s10_ends.specs.UdpLink.{BoundLink}
 use Rattle.s10_ends.specs.Server.{book_of}
@@ -51,11 +51,11 @@ of_none : {X : Type 0} (xs ys : List X) → xs ++ ys ≡ [] → xs ≡ xs ++ ys
 of_none [] ys is = sym is
 of_none (x ∷ xs) ys is = absurd cc
 
--- If the ledger had no fault, none of the calls is uncommitted.
-whole_over : (day : ℕ) (begun ended : LoopLink) → IsNewLoop day begun
+-- No call of the ledger is pending.
+pub none_left : (day : ℕ) (begun ended : LoopLink) → IsNewLoop day begun
     → LeadsTo IsLoopStep begun ended → IsHonest over_memory (book_of ended.server)
-    → (book_of ended.server).faults ≡ no_faults → (book_of ended.server).pending ≡ []
-whole_over day begun ended fresh led honest faultless =
+    → (book_of ended.server).pending ≡ []
+none_left day begun ended fresh led honest =
     let first : Ledger MemStore = book_of begun.server in
     let last : Ledger MemStore = book_of ended.server in
     let whole : Whole (λ (b : Ledger MemStore). b.faults) (IsHonest over_memory) (λ b. b.terms)
@@ -64,8 +64,8 @@ whole_over day begun ended fresh led honest faultless =
     near_whole (λ (b : Ledger MemStore). b.faults) (IsHonest over_memory) (λ b. b.terms)
     (history_of over_memory) (committed_of over_memory) (λ (l : BoundLink). l.trace)
     (λ (l : BoundLink). l.trace) begun ended led
-    (λ h none. of_none (committed_of over_memory first) first.pending fresh.empty) in
-    all_of (committed_of over_memory last) last.pending (whole honest faultless)
+    (λ h. of_none (committed_of over_memory first) first.pending fresh.empty) in
+    all_of (committed_of over_memory last) last.pending (whole honest)
 
 asked_over : (to : Peer) (last : Trace) (u v : Option (List ℕ)) (r : Result JobStatus WriteFault)
     (first : Trace) → first ≡ new_trace
@@ -89,10 +89,11 @@ looped_over to day begun ended looped u v r first fresh led left none asked = re
   ended = ended;
   led = led;
   left = left;
-  uncommitted = (book_of ended.server).pending;
   served = subst (λ (c : Held MemStore). ServedOn day [] loop_terms
-      (history_in (state over_memory c).now ++ (book_of ended.server).pending)) (sym left.closed)
-      (served_over day begun ended fresh led left.honest);
-  whole = whole_over day begun ended fresh led left.honest;
+      (history_in (state over_memory c).now)) (sym left.closed)
+      (subst (λ (l : List Entry). ServedOn day [] loop_terms l)
+      (ap (λ (p : List Entry). committed_of over_memory (book_of ended.server) ++ p)
+      (none_left day begun ended fresh led left.honest) ∙ append-nil _)
+      (served_over day begun ended fresh led left.honest));
   asked = asked_over to looped.near.trace u v r first none asked;
 }

@@ -1,8 +1,9 @@
 -- What a book says of the connection that it was created in or opened from, and of the files that
 -- it is closed in.
 use Rattle.std.proofs.Common.{◌≡◌, ◌≢◌, ◌≤◌, ◌∙◌, ap, refl, sym, subst, arith, List, ◌++◌}
-use Rattle.std.proofs.Common.{append-nil, ℕ, Option, None, Result, Ok, Err}
-use Rattle.std.specs.Prelude.{IsTrue, [], IfOk, IfErr, IfSome}
+use Rattle.std.proofs.Common.{append-nil, ℕ, Option, None, Result, Ok, Err, length, length-append}
+use Rattle.std.proofs.lemmas.List.{nil_from_length}
+use Rattle.std.specs.Prelude.{IsTrue, [], IfOk, IfErr, IfSome, OnErr}
 use Rattle.sqlite_disk.specs.declared.Disk.{Ghosts}
 use Rattle.sqlite_disk.specs.declared.Files.{Files}
 use Rattle.sqlite_wal.specs.Recovery.{Image}
@@ -19,9 +20,12 @@ use Rattle.sqlite.specs.Files.{file_state, over_files, AreFoundIn}
 use Rattle.sqlite.specs.Closing.{IsCopied}
 use Rattle.s10_history.specs.declared.entry.Entry.{Entry}
 use Rattle.s10_history.specs.Settings.{Terms}
-use Rattle.s10_ledger.specs.Ledger.{Ledger, IsAnyLedger, IsHonest, history_in, history_of}
-use Rattle.s10_host.specs.Files.{IsFoundIn, WhereClean, IsEmptyBook, IsFoundBook, Copies, ClosesInto}
-use Rattle.s10_host.specs.Files.{LeavesClean}
+use Rattle.s10_history.specs.History.{day_of}
+use Rattle.s10_ledger.specs.Ledger.{Ledger, IsLedger, IsAnyLedger, IsHonest, history_in}
+use Rattle.s10_ledger.specs.Ledger.{history_of}
+use Rattle.s10_ledger.specs.Ledger.{committed_of}
+use Rattle.s10_host.specs.Files.{IsFoundIn, WhereClean, IsEmptyBook, IsFoundBook, Copies}
+use Rattle.s10_host.specs.Files.{ClosesInto, LeavesClean}
 use Rattle.s10_host.specs.Closing.{IsClosedAs, Turns}
 use Rattle.s10_lines.specs.declared.write_fault.WriteFault.{WriteFault}
 use Rattle.s10_ends.specs.UdpLink.{BoundLink}
@@ -29,6 +33,7 @@ use Rattle.s10_jobs.specs.declared.job_status.JobStatus.{JobStatus}
 use Rattle.s10_jobs.specs.declared.job_status.JobStatus.TheVariants.{Done}
 use Rattle.s10_jobs.specs.declared.reporting.Report.{Report}
 use Rattle.s10_jobs.specs.Reporting.{report_lines, PrintsReport}
+use Rattle.s10_book.specs.declared.book_fault.BookFault.{BookFault}
 use Rattle.s10_book.specs.Book.{Unchanged}
 use Rattle.s10_book.specs.BookFault.{no_faults}
 use Rattle.s10_rows.specs.declared.open_fault.OpenFault.{OpenFault}
@@ -61,6 +66,7 @@ made_for g terms made (Ok book) is new opened honest empty none =
       settings = new.0 ∙ is;
       honest = λ clean. honest clean (opened clean);
       empty = none_pending g book [] none empty;
+      none_pending = none;
     }
 made_for g terms made (Err e) is new opened honest empty none = tt
 
@@ -81,6 +87,7 @@ opened_for g was (Ok book) opened honest found same history none sound =
       same = same;
       history = none_pending g book _ none history;
       sound = sound;
+      none_pending = none;
     }
 opened_for g was (Err e) opened honest found same history none sound = tt
 
@@ -104,7 +111,7 @@ refused_for g work was (Err e) left fault none refusal = refused_left g work was
 -- What a job did, by its ledger before and after and by how that was closed.
 pub worked_with : {S : Type 0} (g : store.Ghosts S) (work : BookJob) (was : Held S)
     (old new : Option (List ℕ)) (done : Result JobStatus WriteFault) (link : Option BoundLink)
-    (book after : Ledger S) (closed : Held S)
+    (book after : Ledger S) (closed : Held S) (kept : Result (Unit {0}) BookFault)
     → ((terms : Terms) → work ≡ Create terms → IsMadeWith g terms book)
     → (((terms : Terms) → work ≢ Create terms) → IsOpenedFrom g was book)
     → ((terms : Terms) → work ≡ Create terms → (done ≡ Ok Done) × (link ≡ None) × (after ≡ book)
@@ -113,24 +120,53 @@ pub worked_with : {S : Type 0} (g : store.Ghosts S) (work : BookJob) (was : Held
     → (link ≡ None → IsUnbound book after old new done)
     × IfSome link (Turns g day count book after old new done))
     → ((report : Report) → work ≡ ReportOn report → (link ≡ None)
-    × Unchanged (λ (b : Ledger S). history_of g b) (λ (b : Ledger S). b.terms) (IsHonest g) book
-    after
+    × Unchanged (λ (b : Ledger S). history_of g b) (λ (b : Ledger S). committed_of g b)
+    (λ (b : Ledger S). b.terms) (IsHonest g) book after
     × (IsHonest g after
     → IfOk done (PrintsReport book.faults after.faults old new
     (report_lines report (history_of g book) book.terms))))
-    → IsClosedAs g after closed → HasRunBookJob g work was old new done link closed
-worked_with g (Create terms) was old new done link book after closed made opened left served
+    → IsClosedAs g after closed kept → HasRunBookJob g work was old new done link closed kept
+worked_with g (Create terms) was old new done link book after closed kept made opened left served
     reported closes =
     let (is, none, same, still) = left terms refl in
     (after, subst (IsMadeWith g terms) (sym same) (made terms refl), closes, is, still, none)
-worked_with g (Serve at count day) was old new done link book after closed made opened left served
-    reported closes =
+worked_with g (Serve at count day) was old new done link book after closed kept made opened left
+    served reported closes =
     let (unbound, turns) = served at count day refl in
     (book, opened (λ terms is. absurd cc), after, closes, unbound, turns)
-worked_with g (ReportOn report) was old new done link book after closed made opened left served
-    reported closes =
+worked_with g (ReportOn report) was old new done link book after closed kept made opened left
+    served reported closes =
     let (none, unchanged, written) = reported report refl in
     (book, opened (λ terms is. absurd cc), after, closes, unchanged, written, none)
+
+-- If a list followed by others is the list, there are no others.
+nothing_left : {X : Type 0} (xs ys zs : List X) → xs ≡ (xs ++ ys) ++ zs → zs ≡ []
+nothing_left xs ys zs is = nil_from_length zs (omega (
+  arith,
+  ap length is,
+  length-append (xs ++ ys) zs,
+  length-append xs ys,
+))
+
+-- No call is pending after a call that leaves the history unchanged, if none was before.
+pub still_none : {S : Type 0} (g : store.Ghosts S) (opened after : Ledger S) → opened.pending ≡ []
+    → Unchanged (λ (b : Ledger S). history_of g b) (λ (b : Ledger S). committed_of g b)
+    (λ (b : Ledger S). b.terms) (IsHonest g) opened after
+    → IsHonest g after → after.pending ≡ []
+still_none g opened after none unchanged honest =
+    let grew = unchanged.stays_committed honest in
+    nothing_left (committed_of g opened) grew.0 after.pending
+    (sym (append-nil (committed_of g opened))
+    ∙ ap (λ (p : List Entry). committed_of g opened ++ p) (sym none)
+    ∙ sym (unchanged.same_history honest)
+    ∙ ap (λ (l : List Entry). l ++ after.pending) grew.1)
+
+-- A closed ledger has all its calls, unless some could not be committed.
+pub calls_all : {S : Type 0} (g : store.Ghosts S) (book : Ledger S) (closed : Held S)
+    (kept : Result (Unit {0}) BookFault) → IsClosedAs g book closed kept → OnErr kept ⊥
+    → IsClean g closed → IsOpen g closed → history_in (state g closed).now ≡ history_of g book
+calls_all g book closed (Ok _) put never clean opened = put.whole clean opened
+calls_all g book closed (Err fault) put never clean opened = absurd never
 
 module _ {D : Type 0} {g : Ghosts D} where
   pub empty_book : (terms : Terms) (book : Ledger (FileStore D g))
@@ -155,18 +191,24 @@ module _ {D : Type 0} {g : Ghosts D} where
         history = opening.history sound;
       }
 
-  -- If the files hold the last commit of a connection, what was true of the ledger that it showed
-  -- is true of the book.
-  pub closed_into : (book : Ledger (FileStore D g)) (closed : Held (FileStore D g)) (files : Files D)
-      → IsClosedAs over_files book closed → Copies closed files → ClosesInto book files
-  closed_into book closed files put copies clean =
+  -- If the files hold the last commit of a connection, it showed the ledger of these calls.
+  pub closed_into : (book : Ledger (FileStore D g)) (closed : Held (FileStore D g))
+      (kept : Result (Unit {0}) BookFault) (calls : List Entry) (files : Files D)
+      → IsClosedAs over_files book closed kept
+      → (IsClean over_files closed → IsOpen over_files closed
+      → history_in (file_state closed).now ≡ calls)
+      → Copies closed files → ClosesInto book calls files
+  closed_into book closed kept calls files put is copies clean =
       let copied = copies clean in
-      let here = subst (λ conn. IsCopied conn files) put.same copied in
+      let same = is copied.was_clean copied.was_open in
       record {
         honest = put.honest copied.was_clean copied.was_open;
-        settled = subst (λ conn. (file_state conn).committed ≡ (file_state conn).now) put.same
-            (put.committed copied.was_clean copied.was_open);
-        copied = here;
+        closed = closed;
+        quiescent = put.committed copied.was_clean copied.was_open;
+        ledger = subst (λ (l : List Entry). IsLedger (file_state closed).now book.terms (length l)
+            (day_of l)) same (put.ledger copied.was_clean copied.was_open);
+        holds = same;
+        copied = copied;
       }
 
   -- The files are as clean as the store that returned them, and the store as the connection before.

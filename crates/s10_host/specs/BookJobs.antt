@@ -13,6 +13,7 @@ use Rattle.sqlite.specs.Files.{over_files}
 use Rattle.sqlite.specs.Held.{Held, state}
 use Rattle.s10_lines.specs.declared.write_fault.WriteFault.{WriteFault}
 use Rattle.s10_history.specs.Settings.{Terms}
+use Rattle.s10_book.specs.declared.book_fault.BookFault.{BookFault}
 use Rattle.s10_book.specs.Book.{Unchanged}
 use Rattle.s10_ends.specs.UdpLink.{BoundLink}
 use Rattle.s10_rows.specs.declared.open_fault.OpenFault.{OpenFault}
@@ -20,6 +21,7 @@ use Rattle.s10_schema.specs.Schema.{IsClosedSchema}
 use Rattle.s10_statements.specs.ConnectionState.{IsClean, IsOpen, WasSound}
 use Rattle.s10_statements.specs.Creating.{IsCreateRefusal}
 use Rattle.s10_ledger.specs.Ledger.{Ledger, IsAnyLedger, IsHonest, history_in, history_of}
+use Rattle.s10_ledger.specs.Ledger.{committed_of}
 use Rattle.s10_ledger.specs.Refusals.{IsOpeningRefusal}
 use Rattle.s10_jobs.specs.declared.job_status.JobStatus.{JobStatus}
 use Rattle.s10_jobs.specs.declared.job_status.JobStatus.TheVariants.{Done, Failed}
@@ -30,7 +32,7 @@ use Rattle.s10_host.specs.declared.book_job.BookJob.TheVariants.{Create, Serve, 
 use Rattle.s10_host.specs.Closing.{IsClosedAs, Turns}
 use Rattle.s10_host.specs.Files.{FileConnection, ClosedFiles, IsFoundIn, Copies, IsFileFault}
 use Rattle.s10_host.specs.Files.{IsAbsenceOr}
-use Rattle.s10_host.specs.Jobs.{ledger_line, FailsByLedger, FailsByClosing}
+use Rattle.s10_host.specs.Jobs.{ledger_line, FailsByLedger, FailsByClosing, EndsAs}
 
 module _ {S : Type 0} (g : Ghosts S) where
   -- A ledger that was created with these settings, without calls.
@@ -38,6 +40,7 @@ module _ {S : Type 0} (g : Ghosts S) where
     pub settings : book.terms ≡ terms
     pub honest : IsClean g book.conn → IsHonest g book
     pub empty : IsHonest g book → history_of g book ≡ []
+    pub none_pending : book.pending ≡ []
 
   -- A ledger that was opened from what a connection showed. It shows the same database, or one of
   -- an earlier build completed.
@@ -48,31 +51,34 @@ module _ {S : Type 0} (g : Ghosts S) where
         ≡ (state g was).now
     pub history : IsHonest g book → history_of g book ≡ history_in (state g was).now
     pub sound : WasSound g was book.conn
+    pub none_pending : book.pending ≡ []
 
   -- The ledger was opened from a connection, then served in turns unless its address could not be
   -- bound, and then closed.
   abbrev pub HasBeenServed : ℕ → Option ℕ → Held S → Option (List ℕ) → Option (List ℕ)
-      → Result JobStatus WriteFault → Option BoundLink → Held S → Type 0
-  HasBeenServed count day was old new done link closed =
+      → Result JobStatus WriteFault → Option BoundLink → Held S → Result (Unit {0}) BookFault
+      → Type 0
+  HasBeenServed count day was old new done link closed kept =
       (opened : Ledger S) × IsOpenedFrom was opened × (served : Ledger S)
-      × IsClosedAs g served closed
+      × IsClosedAs g served closed kept
       × (link ≡ None → IsUnbound opened served old new done)
       × IfSome link (Turns g day count opened served old new done)
 
-  -- What a job did over a connection, what it printed, and the link and the connection that it
-  -- returned.
+  -- What a job did over a connection, what it printed, the link and the connection that it
+  -- returned, and whether all calls are committed.
   abbrev pub HasRunBookJob : BookJob → Held S → Option (List ℕ) → Option (List ℕ)
-      → Result JobStatus WriteFault → Option BoundLink → Held S → Type 0
-  HasRunBookJob (Create terms) was old new done link closed =
-      (book : Ledger S) × IsMadeWith terms book × IsClosedAs g book closed × (done ≡ Ok Done)
+      → Result JobStatus WriteFault → Option BoundLink → Held S → Result (Unit {0}) BookFault
+      → Type 0
+  HasRunBookJob (Create terms) was old new done link closed kept =
+      (book : Ledger S) × IsMadeWith terms book × IsClosedAs g book closed kept × (done ≡ Ok Done)
       × (new ≡ old) × (link ≡ None)
-  HasRunBookJob (Serve at count day) was old new done link closed =
-      HasBeenServed count day was old new done link closed
-  HasRunBookJob (Report report) was old new done link closed =
+  HasRunBookJob (Serve at count day) was old new done link closed kept =
+      HasBeenServed count day was old new done link closed kept
+  HasRunBookJob (Report report) was old new done link closed kept =
       (opened : Ledger S) × IsOpenedFrom was opened × (reported : Ledger S)
-      × IsClosedAs g reported closed
-      × Unchanged (λ (b : Ledger S). history_of g b) (λ (b : Ledger S). b.terms) (IsHonest g) opened
-      reported
+      × IsClosedAs g reported closed kept
+      × Unchanged (λ (b : Ledger S). history_of g b) (λ (b : Ledger S). committed_of g b)
+      (λ (b : Ledger S). b.terms) (IsHonest g) opened reported
       × (IsHonest g reported
       → IfOk done (PrintsReport opened.faults reported.faults old new
       (report_lines report (history_of g opened) opened.terms)))
@@ -99,8 +105,9 @@ module _ {D : Type 0} {g : disk.Ghosts D} where
     pub closed : Held (FileStore D g)
     pub done : Result JobStatus WriteFault
     pub between : Option (List ℕ)
-    pub worked : HasRunBookJob over_files work was old between done link closed
-    pub kept : IfSome files (λ f. Copies closed f × (result ≡ done) × (new ≡ between))
+    pub committed : Result (Unit {0}) BookFault
+    pub worked : HasRunBookJob over_files work was old between done link closed committed
+    pub kept : IfSome files (λ f. Copies closed f × EndsAs committed done between new result)
     pub lost : files ≡ None → FailsByClosing done between new result
 
   -- The job was not run, and the line says why.

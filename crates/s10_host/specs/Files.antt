@@ -1,6 +1,6 @@
 -- Defines ledgers in files, as they are created, opened and closed.
 use denote.RattleType.{RattleType}
-use Rattle.std.specs.Prelude.{◌≡◌, ◌⊎◌, false, []}
+use Rattle.std.specs.Prelude.{◌≡◌, ◌⊎◌, false, List, [], length}
 use Rattle.sqlite_disk.specs.declared.Disk.{Ghosts}
 use Rattle.sqlite_disk.specs.declared.Files.{Files}
 use Rattle.sqlite_disk.specs.declared.modelled.Modelled.{Modelled}
@@ -21,7 +21,10 @@ use Rattle.sqlite.specs.Files.{IsOpened}
 use Rattle.sqlite.specs.Start.{FindsIn}
 use Rattle.sqlite.specs.Closing.{IsCopied}
 use Rattle.s10_schema.specs.Schema.{IsClosedSchema}
-use Rattle.s10_ledger.specs.Ledger.{Ledger, IsAnyLedger, IsHonest, history_in, history_of}
+use Rattle.s10_history.specs.declared.entry.Entry.{Entry}
+use Rattle.s10_history.specs.History.{day_of}
+use Rattle.s10_ledger.specs.Ledger.{Ledger, IsLedger, IsAnyLedger, IsHonest, history_in}
+use Rattle.s10_ledger.specs.Ledger.{history_of}
 use Rattle.s10_rows.specs.declared.open_fault.OpenFault.{OpenFault}
 use Rattle.s10_rows.specs.declared.open_fault.OpenFault.TheVariants.{NotALedger, Memory, Store}
 use Rattle.s10_ledger.specs.Refusals.{IsOpeningRefusal}
@@ -65,15 +68,20 @@ module _ {D : Type 0} {g : Ghosts D} where
   abbrev pub Copies : Held (FileStore D g) → Files D → Type 0
   Copies c files = AreClean g files.log files.db → IsCopied c files
 
-  -- The ledger was honest to the end, and the files hold what it showed, also after a crash.
-  pub record IsClosedInto (book : Ledger (FileStore D g)) (files : Files D) : Type 0 where
+  -- The ledger was honest to the end, and the files hold the ledger of exactly these calls, also
+  -- after a crash.
+  pub record IsClosedInto (book : Ledger (FileStore D g)) (calls : List Entry) (files : Files D) :
+      Type 0 where
     pub honest : IsHonest over_files book
-    pub settled : (file_state book.conn).committed ≡ (file_state book.conn).now
-    pub copied : IsCopied book.conn files
+    pub closed : Held (FileStore D g)
+    pub quiescent : (file_state closed).committed ≡ (file_state closed).now
+    pub ledger : IsLedger (file_state closed).now book.terms (length calls) (day_of calls)
+    pub holds : history_in (file_state closed).now ≡ calls
+    pub copied : IsCopied closed files
 
   -- The ledger was closed in these files, if both kept what was written.
-  abbrev pub ClosesInto : Ledger (FileStore D g) → Files D → Type 0
-  ClosesInto book files = AreClean g files.log files.db → IsClosedInto book files
+  abbrev pub ClosesInto : Ledger (FileStore D g) → List Entry → Files D → Type 0
+  ClosesInto book calls files = AreClean g files.log files.db → IsClosedInto book calls files
 
   -- Both files kept what was written only if the connection's disk is clean.
   abbrev pub LeavesClean : Held (FileStore D g) → Files D → Type 0

@@ -1,7 +1,7 @@
 -- Defines what each job has done when it ends, and what it has printed.
 use denote.RattleType.{RattleType}
 use Rattle.std.specs.Prelude.{◌≡◌, ◌⊎◌, ℕ, Bool, true, false, List, [], ◌∷◌, ◌++◌, codes, Option}
-use Rattle.std.specs.Prelude.{None, Result, IsOk, IfOk, IfSome}
+use Rattle.std.specs.Prelude.{None, Result, Ok, Err, IsOk, IfOk, IfSome}
 use Rattle.std.specs.Io.KnownBytes.{Appends}
 use Rattle.sqlite_disk.specs.declared.start.Start.{Ghosts}
 use Rattle.sqlite_wal.specs.Files.{image_at}
@@ -10,8 +10,9 @@ use Rattle.s10_ends.specs.UdpLink.{BoundLink}
 use Rattle.s10_lines.specs.declared.write_fault.WriteFault.{WriteFault}
 use Rattle.s10_lines.specs.Lines.{line_of}
 use Rattle.s10_history.specs.Settings.{Terms}
+use Rattle.s10_book.specs.declared.book_fault.BookFault.{BookFault}
 use Rattle.s10_book.specs.Book.{Unchanged}
-use Rattle.s10_ledger.specs.Ledger.{IsHonest, history_of}
+use Rattle.s10_ledger.specs.Ledger.{IsHonest, history_of, committed_of}
 use Rattle.s10_rows.specs.declared.open_fault.OpenFault.{OpenFault}
 use Rattle.s10_rows.specs.declared.open_fault.OpenFault.TheVariants.{Store}
 use Rattle.s10_jobs.specs.declared.job_status.JobStatus.{JobStatus}
@@ -26,7 +27,7 @@ use Rattle.s10_jobs.specs.declared.reporting.Report.{Report}
 use Rattle.s10_jobs.specs.declared.reporting.Report.TheVariants.{Ranges, Issues}
 use Rattle.s10_host.specs.Audited.{HasFound, audit_line, audit_status}
 use Rattle.s10_jobs.specs.Reporting.{report_lines, PrintsReport}
-use Rattle.s10_jobs.specs.Serving.{IsDay}
+use Rattle.s10_ends.specs.Composed.{IsDay}
 use Rattle.s10_sockets.specs.Questioning.{IsAsked, IsUnasked}
 use Rattle.s10_host.specs.declared.loop_resources.LoopResources.{LoopResources}
 use Rattle.s10_host.specs.Closing.{Turns}
@@ -50,6 +51,13 @@ abbrev pub FailsByClosing : Result JobStatus WriteFault → Option (List ℕ) �
     → Result JobStatus WriteFault → Type 0
 FailsByClosing done between new result =
     IfOk result (λ status. IsOk done × FailsByLedger (λ fault. fault ≡ Store) between new status)
+
+-- A job ends as it was done if all calls are committed; otherwise the line says that the ledger
+-- could not be closed. The calls that are not committed got no reply.
+abbrev pub EndsAs : Result (Unit {0}) BookFault → Result JobStatus WriteFault → Option (List ℕ)
+    → Option (List ℕ) → Result JobStatus WriteFault → Type 0
+EndsAs (Ok _) done between new result = (result ≡ done) × (new ≡ between)
+EndsAs (Err fault) done between new result = FailsByClosing done between new result
 
 -- The report is the one asked for: that of the issues, or that of the ranges on the given day or on
 -- one of the clock.
@@ -80,7 +88,7 @@ module _ (S : RattleType) (first : Ghosts S.Denot) where
     pub book : FileLedger S first
     pub settings : book.terms ≡ terms
     pub empty : WhereClean IsEmptyBook book
-    pub closes_into : ClosesInto book files
+    pub closes_into : ClosesInto book [] files
 
   -- A ledger was created, and only then `created` was printed. Or the line says why there is none.
   pub record HasCreated (terms : Terms) (old new : Option (List ℕ))
@@ -90,14 +98,26 @@ module _ (S : RattleType) (first : Ghosts S.Denot) where
         × Appends old new (codes "created\n")))
     pub refused : files ≡ None → IfOk result (FailsByLedger (IsNotMade S first) old new)
 
+  -- How the service of a ledger ended, and which calls its files hold: all calls, or the committed
+  -- ones if the line says that the others could not be committed.
+  abbrev pub EndsServed : FileLedger S first → Result JobStatus WriteFault → Option (List ℕ)
+      → Option (List ℕ) → Result JobStatus WriteFault → ClosedFiles S first → Type 0
+  EndsServed served turned between new result files =
+      ((result ≡ turned) × (new ≡ between)
+      × ClosesInto served (history_of over_files served) files)
+      ⊎ (FailsByClosing turned between new result
+      × ClosesInto served (committed_of over_files served) files)
+
   -- The ledger was served in turns, which are all that the link carried, and closed in these files.
   pub record IsServed (opened : FileLedger S first) (day : Option ℕ) (count : ℕ)
       (old new : Option (List ℕ)) (result : Result JobStatus WriteFault) (link : BoundLink)
       (files : ClosedFiles S first) : Type 0 where
     pub served : FileLedger S first
-    pub turns : Turns over_files day count opened served old new result link
+    pub turned : Result JobStatus WriteFault
+    pub between : Option (List ℕ)
+    pub turns : Turns over_files day count opened served old between turned link
     pub was_honest : IsHonest over_files served → IsHonest over_files opened
-    pub closes_into : ClosesInto served files
+    pub ends : EndsServed served turned between new result files
 
   -- The ledger was served in turns, and could not be closed.
   pub record IsLost (opened : FileLedger S first) (day : Option ℕ) (count : ℕ)
@@ -113,7 +133,7 @@ module _ (S : RattleType) (first : Ghosts S.Denot) where
   -- The ledger was opened, and its address could not be bound.
   pub record IsUnlinked (opened : FileLedger S first) (old new : Option (List ℕ))
       (result : Result JobStatus WriteFault) (files : Option (ClosedFiles S first)) : Type 0 where
-    pub closes_into : IfSome files (ClosesInto opened)
+    pub closes_into : IfSome files (ClosesInto opened (history_of over_files opened))
     pub printed : IfSome files (λ _. IfOk result (λ status. (status ≡ Failed)
         × Appends old new (line_of (codes "link") (codes "bind" ∷ []))))
     pub lost : files ≡ None
@@ -156,9 +176,10 @@ module _ (S : RattleType) (first : Ghosts S.Denot) where
       (result : Result JobStatus WriteFault) (files : ClosedFiles S first) : Type 0 where
     pub reported : FileLedger S first
     pub written : Writes report opened reported old new result
-    pub unchanged : Unchanged (λ (b : FileLedger S first). history_of over_files b) (λ b. b.terms)
-        (IsHonest over_files) opened reported
-    pub closes_into : ClosesInto reported files
+    pub unchanged : Unchanged (λ (b : FileLedger S first). history_of over_files b)
+        (λ (b : FileLedger S first). committed_of over_files b) (λ b. b.terms) (IsHonest over_files)
+        opened reported
+    pub closes_into : ClosesInto reported (history_of over_files reported) files
 
   -- The ledger was reported on, and could not be closed.
   pub record IsReportedAndLost (opened : FileLedger S first) (report : Report)

@@ -9,12 +9,10 @@ use Rattle.s10_lines.specs.Lines.{line_of}
 use Rattle.s10_link.specs.declared.peer.Peer.{Peer}
 use Rattle.s10_link.specs.Trace.{new_trace}
 use Rattle.s10_link.specs.Link.{LeadsTo}
-use Rattle.s10_history.specs.declared.entry.Entry.{Entry}
 use Rattle.s10_history.specs.Settings.{Terms}
-use Rattle.s10_book.specs.BookFault.{no_faults}
 use Rattle.s10_ledger.specs.Ledger.{Ledger, IsHonest, history_in, history_of, committed_of}
 use Rattle.s10_ends.specs.UdpLink.{BoundLink}
-use Rattle.s10_ends.specs.declared.near_link.NearLink.{NearLink}
+use Rattle.s10_ends.specs.NearEnds.{NearEnds}
 use Rattle.s10_ends.specs.Server.{book_of}
 use Rattle.s10_ends.specs.NearLink.{IsNearStep, ServedOn}
 use Rattle.s10_rows.specs.declared.open_fault.OpenFault.{OpenFault}
@@ -34,7 +32,7 @@ IsLoopFailure line = (line ≡ line_of (codes "link") (codes "bind" ∷ []))
 
 -- A link to a ledger in memory, over two sockets of this machine.
 abbrev pub LoopLink : Type 0
-LoopLink = NearLink (Ledger MemStore) BoundLink BoundLink
+LoopLink = NearEnds (Ledger MemStore) BoundLink BoundLink
 
 -- The settings of the ledger of a loop.
 abbrev pub loop_terms : Terms
@@ -62,8 +60,7 @@ pub record AreLoopResources (link : LoopLink) (looped : LoopResources) : Type 0 
   pub near : looped.near ≡ link.near
 
 -- A run of a loop. Its calls are all that a new link carried. The calls served on the day are the
--- history of the ledger, followed by those that could not be committed: none if the ledger had no
--- fault. The lines of the calls were printed unless the writer failed.
+-- history of the ledger. The lines of the calls were printed unless the writer failed.
 pub record IsLoopRun (day : ℕ) (old new : Option (List ℕ)) (result : Result JobStatus WriteFault)
     (looped : LoopResources) : Type 0 where
   pub begun : LoopLink
@@ -71,10 +68,7 @@ pub record IsLoopRun (day : ℕ) (old new : Option (List ℕ)) (result : Result 
   pub ended : LoopLink
   pub led : LeadsTo IsLoopStep begun ended
   pub left : AreLoopResources ended looped
-  pub uncommitted : List Entry
-  pub served : ServedOn day [] loop_terms (history_in (state over_memory looped.connection).now
-      ++ uncommitted)
-  pub whole : (book_of ended.server).faults ≡ no_faults → uncommitted ≡ []
+  pub served : ServedOn day [] loop_terms (history_in (state over_memory looped.connection).now)
   pub asked : IfOk result (λ status. (to : Peer)
       × Prints old new (AreMadeInTurn to loop_calls new_trace looped.near.trace status))
 

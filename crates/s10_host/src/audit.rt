@@ -8,7 +8,7 @@ ghost use Rattle.s10_host.specs.Audited.{HasFound, audit_line, audit_status};
 
 use s10_book::Book;
 use s10_jobs::{JobStatus, write_ledger_fault};
-use s10_ledger::{Observer, OpenFault, Refused, SqlBook};
+use s10_ledger::{ClosedBook, Observer, OpenFault, Refused, SqlBook};
 use s10_lines::{WriteFault, write_decimal, write_text, write_word};
 use sqlite::{Alter, Connection};
 use std::alloc::Global;
@@ -50,7 +50,11 @@ fn audit_ledger<S: Alter, K: Observer>(
     match SqlBook::open(alloc, connection, observer) {
         Ok(book) => {
             let count = book.len();
-            (Ok(count), book.close())
+            let ClosedBook {
+                connection,
+                committed: _,
+            } = book.close();
+            (Ok(count), connection)
         }
         Err(Refused { fault, connection }) => (Err(fault), connection),
     }

@@ -5,7 +5,7 @@ ghost use Rattle.sqlite.specs.Held.{Held};
 ghost use Rattle.s10_book.specs.Book.{Unchanged};
 ghost use Rattle.s10_history.specs.Settings.{Terms};
 ghost use Rattle.s10_jobs.specs.Reporting.{report_lines, PrintsReport};
-ghost use Rattle.s10_jobs.specs.Serving.{IsBatch, Serves};
+ghost use Rattle.s10_jobs.specs.Serving.{ServesTurns};
 ghost use Rattle.s10_jobs.specs.declared.reporting.Report.{Report};
 ghost use Rattle.s10_link.specs.Trace.{new_trace};
 ghost use Rattle.s10_link.specs.declared.peer.Peer.{Peer};
@@ -13,11 +13,11 @@ ghost use Rattle.s10_sockets.specs.Unbound.{IsUnbound};
 ghost use Rattle.s10_host.specs.BookJobs.{HasRunBookJob, IsMadeWith, IsOpenedFrom};
 ghost use Rattle.s10_host.specs.BookJobs.{IsBookJobRefusal};
 
-use s10_book::GroupCommit;
+use s10_book::{Batched, BookFault, GroupCommit};
 use s10_ends::UdpLink;
 use s10_history::Settings;
 use s10_jobs::{JobStatus, Report, write_report};
-use s10_ledger::{Observer, Refused, SqlBook};
+use s10_ledger::{ClosedBook, Observer, Refused, SqlBook};
 use s10_lines::WriteFault;
 use s10_link::Peer;
 use s10_sockets::serve_at;
@@ -43,12 +43,13 @@ pub enum BookJob {
     Report(Report),
 }
 
-/// How a job on a ledger ended: its result, the link that the ledger was served over, and the
-/// connection.
+/// How a job on a ledger ended: its result, the link that the ledger was served over, the
+/// connection, and whether all calls are committed.
 pub type BookJobEnd<A> = (
     Result<JobStatus, WriteFault>,
     Option<UdpLink>,
     Connection<A>,
+    Result<(), BookFault>,
 );
 
 /// Creates or opens the ledger of a connection, runs the job on it, and closes it whether or not
@@ -67,7 +68,7 @@ pub fn run_book_job<A: Alter, K: Observer, W: Write>(
 ) -> Result<BookJobEnd<A>, Refused<A>>
     requires idle { connection.in_transaction ≡ false }
     ensures worked { IfOk result (λ w. HasRunBookJob A.Store work connection (W.contents out.old)
-        (W.contents out.new) w.0 w.1 w.2) }
+        (W.contents out.new) w.0 w.1 w.2 w.3) }
     ensures refused { IfErr result (λ r. IsBookJobRefusal A.Store work connection r.connection
         r.fault) }
     ensures silent { IfErr result (λ _. W.contents out.new ≡ W.contents out.old) }
@@ -108,10 +109,14 @@ fn run_and_close_book<A: Alter, W: Write>(
         → IsMadeWith A.Store terms book)
         → (((terms : Terms) → work ≢ BookJob.Create terms) → IsOpenedFrom A.Store was book)
         → HasRunBookJob A.Store work was (W.contents out.old) (W.contents out.new) result.0 result.1
-        result.2 }
+        result.2 result.3 }
 {
     let (done, link, book) = run_on_book(rt, book, work, out);
-    (done, link, book.close())
+    let ClosedBook {
+        connection,
+        committed,
+    } = book.close();
+    (done, link, connection, committed)
 }
 
 // Runs the job on the ledger. A new ledger stays as it was created. Also returns the link that the
@@ -128,12 +133,11 @@ fn run_on_book<B: GroupCommit, W: Write>(
     ensures served { (at : Peer) (count : ℕ) (day : Option ℕ) → work ≡ BookJob.Serve at count day
         → (result.1 ≡ None → IsUnbound book result.2 (W.contents out.old) (W.contents out.new)
         result.0)
-        × IfSome result.1 (λ link. Serves (IsBatch B.faults B.honest B.terms B.history B.committed
-        day)
+        × IfSome result.1 (λ link. ServesTurns B.faults B.honest B.terms B.history B.committed day
         (new_trace, book) (link.trace, result.2) (W.contents out.old) (W.contents out.new) count
         result.0) }
     ensures reported { (report : Report) → work ≡ BookJob.Report report → (result.1 ≡ None)
-        × Unchanged B.history B.terms B.honest book result.2
+        × Unchanged B.history B.committed B.terms B.honest book result.2
         × (B.honest result.2
         → IfOk result.0 (PrintsReport (B.faults book) (B.faults result.2) (W.contents out.old)
         (W.contents out.new)
@@ -141,7 +145,11 @@ fn run_on_book<B: GroupCommit, W: Write>(
 {
     match work {
         BookJob::Create(_) => (Ok(JobStatus::Done), None, book),
-        BookJob::Serve { at, count, day } => serve_at(rt, rt.alloc(), at, book, count, day, out),
+        BookJob::Serve { at, count, day } => {
+            let batched = Batched::new(book);
+            let (done, link, served) = serve_at(rt, rt.alloc(), at, batched, count, day, out);
+            (done, link, served.into_inner())
+        }
         BookJob::Report(report) => {
             let written = write_report(&mut book, report, out);
             (written, None, book)

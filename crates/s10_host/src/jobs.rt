@@ -8,7 +8,7 @@ ghost use Rattle.s10_rows.specs.declared.open_fault.OpenFault.{OpenFault};
 ghost use Rattle.s10_host.specs.Audited.{HasFound, audit_line, audit_status};
 ghost use Rattle.s10_host.specs.Files.{LeavesClean};
 ghost use Rattle.s10_host.specs.Jobs.{ledger_line, HasCreated, HasServed, HasReported, HasAudited};
-ghost use Rattle.s10_host.specs.Jobs.{IsRunOn, HasEnded};
+ghost use Rattle.s10_host.specs.Jobs.{IsRunOn, EndsAs, HasEnded};
 ghost use Rattle.s10_host.specs.BookJobs.{EndsOver, EndsIn};
 ghost use Rattle.s10_host.specs.declared.book_job.BookJob.{BookJob};
 
@@ -22,6 +22,7 @@ use crate::ledger_job::{LedgerJob, LedgerJobEnd, run_ledger_job};
 use crate::loop_resources::LoopResources;
 use crate::loopback::run_loop;
 use crate::progress::Progress;
+use s10_book::BookFault;
 use s10_ends::UdpLink;
 use s10_history::Settings;
 use s10_jobs::{Job, JobStatus, Report, day_or_today, fail_by_clock, fail_by_ledger, refuse};
@@ -250,9 +251,9 @@ fn run_and_close_file<D: Disk + Drop, W: Write>(
 {
     let mut progress = Progress::new(rt, ledger);
     match run_ledger_job(rt, connection, task, &mut progress, out) {
-        LedgerJobEnd::BookJobEnd((worked, link, connection)) => {
+        LedgerJobEnd::BookJobEnd((worked, link, connection, committed)) => {
             let closed = checkpoint_and_close(rt, ledger, connection);
-            let (done, files) = ended(worked, closed, out);
+            let (done, files) = ended(worked, committed, closed, out);
             (done, link, files)
         }
         LedgerJobEnd::Refused(refusal) => {
@@ -267,20 +268,25 @@ fn run_and_close_file<D: Disk + Drop, W: Write>(
     }
 }
 
-// Returns how the job ended, or reports that the ledger could not be closed.
+// Returns how the job ended, or reports that the last calls could not be committed or that the
+// ledger could not be closed.
 fn ended<T, W: Write>(
     done: Result<JobStatus, WriteFault>,
+    committed: Result<(), BookFault>,
     closed: Result<T, OpenFault>,
     out: &mut W,
 ) -> (Result<JobStatus, WriteFault>, Option<T>)
-    ensures kept { IfSome result.1 (λ files. (closed ≡ Ok files) × (result.0 ≡ done)
-        × (W.contents out.new ≡ W.contents out.old)) }
+    ensures kept { IfSome result.1 (λ files. (closed ≡ Ok files)
+        × EndsAs committed done (W.contents out.old) (W.contents out.new) result.0) }
     ensures lost { result.1 ≡ None → (fault : OpenFault) × (closed ≡ Err fault)
         × IfOk result.0 (λ status. IsOk done × (status ≡ JobStatus.Failed)
         × Appends (W.contents out.old) (W.contents out.new) (ledger_line fault)) }
 {
     match closed {
-        Ok(files) => (done, Some(files)),
+        Ok(files) => match committed {
+            Ok(()) => (done, Some(files)),
+            Err(_) => (fail_by_closing(done, OpenFault::Store, out), Some(files)),
+        },
         Err(fault) => (fail_by_closing(done, fault, out), None),
     }
 }

@@ -47,7 +47,7 @@ pub fn run_ledger_job<A: Alter + Drop, K: Observer, W: Write>(
     ensures worked { (w : _) → result ≡ LedgerJobEnd.BookJobEnd w → (work : BookJob)
         × (task ≡ LedgerJob.BookJob work)
         × HasRunBookJob A.Store work connection (W.contents out.old) (W.contents out.new) w.0 w.1
-        w.2 }
+        w.2 w.3 }
     ensures refused { (r : _) → result ≡ LedgerJobEnd.Refused r → (work : BookJob)
         × (task ≡ LedgerJob.BookJob work)
         × IsBookJobRefusal A.Store work connection r.connection r.fault

@@ -1,7 +1,7 @@
 //! Makes five calls between two sockets of this machine.
 
 ghost use Rattle.std.specs.Prelude.{◌≡◌, None, IfOk, IfErr, IfSome};
-ghost use Rattle.s10_ends.specs.declared.near_link.NearLink.{NearLink};
+ghost use Rattle.s10_ends.specs.NearEnds.{NearEnds};
 ghost use Rattle.s10_ends.specs.NearLink.{IsNearStep};
 ghost use Rattle.s10_ends.specs.Server.{book_of};
 ghost use Rattle.s10_ends.specs.UdpLink.{BoundLink};
@@ -13,11 +13,11 @@ ghost use Rattle.s10_sockets.specs.LoopCalls.{loop_calls, AreMadeInTurn};
 ghost use Rattle.s10_host.specs.LoopRun.{IsLoopRun, IsLoopFailure};
 
 use crate::loop_resources::LoopResources;
-use s10_book::GroupCommit;
+use s10_book::Book;
 use s10_ends::{NearLink, Server, UdpLink};
 use s10_history::Settings;
 use s10_jobs::{JobStatus, fail_by_ledger, fail_by_link};
-use s10_ledger::SqlBook;
+use s10_ledger::{ClosedBook, SqlBook};
 use s10_lines::WriteFault;
 use s10_link::{LinkFault, Peer};
 use s10_sockets::{bind_link, make_calls};
@@ -64,8 +64,12 @@ pub fn run_loop<R: Net + Eprint + AllocGlobal, W: Write>(
         Err(fault) => return (fail_by_ledger(fault, out), None),
     };
     let (asked, book, far, near) = loop_over(book, far, near, day, out);
+    let ClosedBook {
+        connection,
+        committed: _,
+    } = book.close();
     let looped = LoopResources {
-        connection: book.close(),
+        connection,
         far,
         near,
     };
@@ -74,17 +78,18 @@ pub fn run_loop<R: Net + Eprint + AllocGlobal, W: Write>(
 
 // Serves a book over the far link on this day, and makes the calls to it over the near link. Also
 // returns the book and the links.
-fn loop_over<B: GroupCommit, W: Write>(
+fn loop_over<B: Book, W: Write>(
     book: B,
     far: UdpLink,
     near: UdpLink,
     day: u32,
     out: &mut W,
 ) -> (Result<JobStatus, WriteFault>, B, UdpLink, UdpLink)
-    ensures { (begun : NearLink B BoundLink BoundLink)
+    requires { B.durable }
+    ensures { (begun : NearEnds B BoundLink BoundLink)
         × (begun ≡ record { server = begun.server; far = far; near = near; day = day })
         × (book_of begun.server ≡ book)
-        × (ended : NearLink B BoundLink BoundLink) × (result.1 ≡ book_of ended.server)
+        × (ended : NearEnds B BoundLink BoundLink) × (result.1 ≡ book_of ended.server)
         × (result.2 ≡ ended.far) × (result.3 ≡ ended.near)
         × LeadsTo (IsNearStep B.faults B.honest B.terms B.history B.committed
         (λ (l : BoundLink). l.trace) (λ (l : BoundLink). l.trace)) begun ended

@@ -132,7 +132,8 @@ Front-answer h h1 h2 t bytes left rest held now after line taken done count d a 
           (is_delivery line (length front.before + 1) d short (omega (arith, front.done_is)) is);
       shows = record {
         answers = front.shows.answers ++ a ∷ [];
-        served = let P : List Dated → Type 0 = λ l. Served h t l (front.shows.answers ++ a ∷ []) h2 in
+        served = let P : List Dated → Type 0 = λ l. Served h t l (front.shows.answers ++ a ∷ [])
+            h2 in
             subst P (sym (deliveries_push front.before line d is))
             (Served-push h h1 h2 t (deliveries_in front.before) front.shows.answers d a
             front.shows.served served);

@@ -10,11 +10,18 @@ use Rattle.std.proofs.lemmas.List.{flat_map_more}
 use Rattle.std.proofs.lemmas.Grind.{flat_map-append}
 use Rattle.std.proofs.lemmas.Option.{none-some, same_Some}
 use Rattle.s10_lines.specs.declared.write_fault.WriteFault.{WriteFault}
+use Rattle.s10_link.specs.declared.trace.Trace.{Trace}
+use Rattle.s10_history.specs.declared.entry.Entry.{Entry}
+use Rattle.s10_history.specs.Settings.{Terms}
+use Rattle.s10_book.specs.declared.faults.Faults.{Faults}
+use Rattle.s10_book.specs.Rules.{IsLegal}
 use Rattle.s10_ends.specs.Turn.{Turn}
 use Rattle.s10_jobs.specs.declared.job_status.JobStatus.{JobStatus}
 use Rattle.s10_jobs.specs.declared.job_status.JobStatus.TheVariants.{Done, Failed}
 use Rattle.s10_jobs.specs.TurnLines.{turn_line}
-use Rattle.s10_jobs.specs.Serving.{IsDay, BatchesLead, turns_in, PrintsBatch, Serves}
+use Rattle.s10_ends.specs.Composed.{IsDay, BatchesLead, IsBatch, turns_in}
+use Rattle.s10_ends.proofs.Composing.{all_composed}
+use Rattle.s10_jobs.specs.Serving.{PrintsBatch, Serves, ServesTurns}
 
 lead_more : {S : Type 0} (IsStep : S → List Turn → S → Type 0) (old : S)
     (batches : List (List Turn)) (mid new : S) (batch : List Turn)
@@ -129,7 +136,8 @@ served_to_no_day IsStep old new held before now done count (Ok Failed) served fe
       few = omega (arith, served.many, few);
       shows = (
         omega (arith, served.many, few),
-        Appends-trans held before now (flat_map turn_line (turns_in served.batches)) (codes "clock\n")
+        Appends-trans held before now (flat_map turn_line (turns_in served.batches))
+            (codes "clock\n")
             served.written line,
       );
     }
@@ -143,4 +151,19 @@ served_to_no_day IsStep old new held before now done count (Err fault) served fe
       lead = served.lead;
       few = omega (arith, served.many, few);
       shows = tt;
+    }
+
+-- Batches one after another give what one run gives.
+pub as_one : {B : Type 0} (faults : B → Faults) (honest : B → Type 0) (terms : B → Terms)
+    (history committed : B → List Entry)
+    → ((book : B) → honest book → IsLegal (history book) (terms book))
+    → (given : Option ℕ) (old new : Trace × B) (held now : Option (List ℕ)) (count : ℕ)
+    (result : Result JobStatus WriteFault)
+    → Serves (IsBatch faults honest terms history committed given) old new held now count result
+    → ServesTurns faults honest terms history committed given old new held now count result
+as_one faults honest terms history committed legal given old new held now count result serves =
+    record {
+      serves = serves;
+      composed = all_composed faults honest terms history committed given legal old new
+          serves.batches serves.lead;
     }

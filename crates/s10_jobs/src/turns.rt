@@ -6,14 +6,14 @@ ghost use Rattle.std.specs.Io.KnownBytes.{Appends};
 ghost use Rattle.s10_ends.specs.Server.{book_of};
 ghost use Rattle.s10_ends.specs.Batch.{ServesBatch};
 ghost use Rattle.s10_jobs.specs.TurnLines.{turn_line};
-ghost use Rattle.s10_jobs.specs.Serving.{IsBatch, Serves, PrintsBatch};
+ghost use Rattle.s10_jobs.specs.Serving.{ServesTurns, PrintsBatch};
 
 use crate::day::day_or_today;
 use crate::failures::fail_by_clock;
 use crate::job_status::JobStatus;
 use crate::turn_line::write_turn;
 use s10_book::GroupCommit;
-use s10_ends::{Server, ServerTurn, Turn, serve_batch, serve_one};
+use s10_ends::{Server, ServerTurn, Turn, serve_batch, serve_batch_of_one};
 use s10_lines::WriteFault;
 use s10_link::Link;
 use std::alloc::Global;
@@ -28,6 +28,9 @@ const MAX_BATCH: u32 = 64;
 /// The calls of a batch are committed together, then its replies are sent, then its lines are
 /// written and flushed. If a batch cannot be allocated, the server handles one datagram without
 /// allocating. Standard error has a line for each dropped datagram, with its sender.
+///
+/// From the first batch to the last, each distinct request that arrived is applied once, in order
+/// of first arrival, and the call of each reply that was sent is committed.
 ///
 /// If no day is given, the clock is read once before each batch. If it gives no day, the turns end
 /// with the line `clock`. The status is `Done`, or `Failed` after `clock`.
@@ -45,7 +48,7 @@ pub fn serve_turns<R: Clock + Eprint, B: GroupCommit, L: Link, W: Write>(
     day: Option<u32>,
     out: &mut W,
 ) -> Result<JobStatus, WriteFault>
-    ensures turns { Serves (IsBatch B.faults B.honest B.terms B.history B.committed day)
+    ensures turns { ServesTurns B.faults B.honest B.terms B.history B.committed day
         (L.trace_of link.old, book_of server.old) (L.trace_of link.new, book_of server.new)
         (W.contents out.old) (W.contents out.new) count result }
     ensures given { day ≢ None → result ≢ Ok JobStatus.Failed }
@@ -84,7 +87,7 @@ fn serve_batched<R: Eprint, B: GroupCommit, L: Link, W: Write>(
             Ok(turns.len() as u32)
         }
         Err(_) => {
-            let turn = serve_one(server, link, day);
+            let turn = serve_batch_of_one(server, link, day);
             print_turns(rt, &[turn], out)?;
             Ok(1)
         }

@@ -64,7 +64,8 @@ asked_over question to body begun link old new r peer asks fresh (client, called
       asks = asks;
       left = client;
       called = called;
-      calls = subst (λ (t : Trace). Calls (new_client question.customer question.number question.number)
+      calls = subst
+          (λ (t : Trace). Calls (new_client question.customer question.number question.number)
           client t link.trace to body question.tries called) fresh calls;
       shows = shows;
     }

@@ -2,7 +2,7 @@
 
 ghost use Rattle.std.specs.Prelude.{◌≡◌, None, IfSome};
 ghost use Rattle.s10_link.specs.Trace.{new_trace};
-ghost use Rattle.s10_jobs.specs.Serving.{IsBatch, Serves};
+ghost use Rattle.s10_jobs.specs.Serving.{ServesTurns};
 ghost use Rattle.s10_sockets.specs.Unbound.{IsUnbound};
 
 use crate::binding::bind_link;
@@ -40,7 +40,7 @@ where
     ensures unbound { result.1 ≡ None → IsUnbound book result.2 (W.contents out.old)
         (W.contents out.new) result.0 }
     ensures served { IfSome result.1
-        (λ link. Serves (IsBatch B.faults B.honest B.terms B.history B.committed day)
+        (λ link. ServesTurns B.faults B.honest B.terms B.history B.committed day
         (new_trace, book) (link.trace, result.2)
         (W.contents out.old) (W.contents out.new) count result.0) }
 {

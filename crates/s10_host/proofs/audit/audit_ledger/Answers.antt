@@ -3,8 +3,8 @@ use Rattle.s10_host.proofs.audit.audit_ledger.Goals as goal
 
 pub returns-in-Ok : goal.returns-in-Ok
 returns-in-Ok g c =
-    found_calls g.S.Store c.args.connection c.close.result c.in-Ok.book c.len-count.result
-    c.close.ensures.same
+    found_calls g.S.Store c.args.connection c.close-connection.result.connection c.in-Ok.book
+    c.len-count.result (c.close-connection.ensures.same c.in-Ok.ensures.none_pending)
     c.in-Ok.ensures.opened c.in-Ok.ensures.honest c.in-Ok.ensures.found c.in-Ok.ensures.same
     c.in-Ok.ensures.history c.in-Ok.ensures.was c.in-Ok.ensures.none_pending
     c.len-count.ensures.answer

@@ -5,9 +5,13 @@ pub returns : goal.returns
 returns g c was made opened =
     let did = c.run_on_book-done.ensures in
     worked_with g.A.Store c.args.work was _ _ _ _ c.args.book c.run_on_book-done.result.2
-    c.close.result made opened did.made did.served did.reported
+    c.close-connection.result.connection c.close-connection.result.committed made opened did.made did.served did.reported
     (record {
-      same = c.close.ensures.same;
-      committed = c.close.ensures.committed;
-      honest = c.close.ensures.honest;
+      committed = c.close-connection.ensures.committed;
+      ledger = c.close-connection.ensures.ledger;
+      honest = c.close-connection.ensures.honest;
+      whole = c.close-connection.ensures.whole;
+      left = c.close-connection.ensures.left;
+      same = c.close-connection.ensures.same;
+      none_pending = c.close-connection.ensures.none_pending;
     })

@@ -8,7 +8,10 @@ pub returns-in-Serve-clause-served : goal.returns-in-Serve-clause-served
 returns-in-Serve-clause-served g c at count day is =
     let turns : c.in-Serve.count ≡ count = cc in
     let given : c.in-Serve.day ≡ day = cc in
-    rw (← turns, ← given) (c.serve_at.ensures.unbound, c.serve_at.ensures.served)
+    rw (← turns, ← given, c.into_inner.ensures, ← c.new-batched.ensures) (
+      c.serve_at-done.ensures.unbound,
+      c.serve_at-done.ensures.served,
+    )
 
 pub returns-in-Report-clause-reported : goal.returns-in-Report-clause-reported
 returns-in-Report-clause-reported g c report is =

@@ -9,6 +9,7 @@ returns-in-BookJobEnd-clause-worked g c work so =
       c.in-BookJobEnd.worked,
       c.in-BookJobEnd.link,
       c.in-BookJobEnd.connection,
+      c.in-BookJobEnd.committed,
     ) refl in
     let between = g.W.Write.contents c.run_ledger_job.new.out in
     let last = g.W.Write.contents c.ended-done.new.out in
@@ -16,9 +17,11 @@ returns-in-BookJobEnd-clause-worked g c work so =
       closed = c.in-BookJobEnd.connection;
       done = c.in-BookJobEnd.worked;
       between = between;
+      committed = c.in-BookJobEnd.committed;
       worked = worked;
       kept = kept_copied c.in-BookJobEnd.connection c.checkpoint_and_close-closed.result
-          c.ended-done.result.1 c.in-BookJobEnd.worked c.ended-done.result.0 between last
+          c.ended-done.result.1 c.in-BookJobEnd.committed c.in-BookJobEnd.worked
+          c.ended-done.result.0 between last
           c.checkpoint_and_close-closed.ensures.copied c.ended-done.ensures.kept;
       lost = λ none. lost_closing c.checkpoint_and_close-closed.result c.in-BookJobEnd.worked
           c.ended-done.result.0 between last c.checkpoint_and_close-closed.ensures.refused
@@ -31,6 +34,7 @@ returns-in-BookJobEnd-clause-audited g c so =
       c.in-BookJobEnd.worked,
       c.in-BookJobEnd.link,
       c.in-BookJobEnd.connection,
+      c.in-BookJobEnd.committed,
     ) refl in
     no_audit c.args.task asked is so
 

@@ -1,4 +1,7 @@
-use Rattle.std.proofs.Common.{refl}
+use Rattle.std.proofs.Common.{◌∙◌, ap, refl}
+use Rattle.s10_ends.specs.NearEnds.{NearEnds}
+use Rattle.s10_ends.specs.UdpLink.{BoundLink}
+use Rattle.s10_ends.specs.Server.{book_of}
 use Rattle.s10_host.proofs.loopback.loop_over.Goals as goal
 
 pub returns : goal.returns
@@ -8,10 +11,12 @@ returns g c =
       refl,
       c.new.ensures,
       ended,
-      c.into_book.ensures,
-      refl,
-      refl,
+      c.into_book.ensures ∙ ap (λ (l : NearEnds g.row.B.Denot BoundLink BoundLink). book_of
+          l.server) c.link.view_is,
+      ap (λ (l : NearEnds g.row.B.Denot BoundLink BoundLink). l.far) c.link.view_is,
+      ap (λ (l : NearEnds g.row.B.Denot BoundLink BoundLink). l.near) c.link.view_is,
       c.make_calls-asked.ensures.led,
       c.local-to.result,
-      c.make_calls-asked.ensures.asked,
+      rw (ap (λ (l : NearEnds g.row.B.Denot BoundLink BoundLink). l.near) c.link.view_is)
+          c.make_calls-asked.ensures.asked,
     )

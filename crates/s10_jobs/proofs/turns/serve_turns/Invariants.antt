@@ -1,5 +1,5 @@
 use Rattle.std.proofs.Common.{◌≤◌, ◌-◌}
-use Rattle.s10_jobs.specs.Serving.{IsBatch}
+use Rattle.s10_ends.specs.Composed.{IsBatch}
 use Rattle.s10_jobs.proofs.Turning.{HasServed}
 use Rattle.s10_jobs.proofs.turns.serve_turns.Given as goal
 
@@ -8,7 +8,7 @@ abbrev pub invariant-loop-done : goal.invariant-loop-done
 invariant-loop-done g l = record {
   few : l.done ≤ l.fn.count;
   served : HasServed (IsBatch g.B.Book.faults g.B.Book.honest g.B.Book.terms g.B.Book.history
-      g.B.GroupCommit.committed l.fn.day)
+      g.B.Book.committed l.fn.day)
       (g.L.Link.trace_of l.fn.link, l.fn.server.book) (g.L.Link.trace_of l.link, l.server.book)
       (g.W.Write.contents l.fn.out) (g.W.Write.contents l.out) l.done;
 }
