@@ -1,6 +1,7 @@
 //! Tests of books, rules and reports, of ranges in memory, and of the book with an index.
 
 mod answers;
+mod batched;
 mod books;
 mod both_books;
 mod failures;

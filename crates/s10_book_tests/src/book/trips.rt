@@ -2,7 +2,7 @@
 
 use crate::book::books::{OPENING, answer, book_after, id, sheet};
 use crate::expect::same;
-use s10_book::{Book, BookFault, GroupCommit, TripBook, decide, successive_draws};
+use s10_book::{Batched, Book, BookFault, GroupCommit, TripBook, decide, successive_draws};
 use s10_core::Id;
 use s10_history::{HolderKey, SerialSpan};
 use s10_reports::{ReportFault, write_ranges};
@@ -38,6 +38,8 @@ enum Question {
     /// A Query by the post with a new number: reads its key, the range of the identifier and its
     /// last issue, and keeps the call.
     Keep,
+    /// The same Query to a book whose `keep` appends.
+    Append,
 }
 
 /// Name of each question, and the number of calls of the book that it makes.
@@ -55,6 +57,7 @@ const QUESTIONS: &[(&str, Question, u64)] = &[
     ("usage", Question::Usage, 3),
     ("withdraw", Question::Withdraw, 2),
     ("keep", Question::Keep, 4),
+    ("append", Question::Append, 4),
 ];
 
 fn asked(customer: u32, number: u32, body: Body) -> Request {
@@ -146,7 +149,7 @@ fn ask<B: GroupCommit>(
         Question::Sheet => sheet_of_one(book, id),
         Question::Usage => report(alloc, book),
         Question::Withdraw => decided(book, &asked(0, number, Body::Withdraw { range: 1 })),
-        Question::Keep => keep(book, id, number),
+        Question::Keep | Question::Append => keep(book, id, number),
     }
 }
 
@@ -182,7 +185,11 @@ fn refused<B: GroupCommit + Drop>(
 /// The same for a book that fails at call `at`, counted from 0.
 fn refused_at<R: Abort + AllocGlobal>(rt: &R, question: Question, at: u64) -> Option<[bool; 3]> {
     let inner = book_after(rt, "opening", &[OPENING]);
-    refused(rt.alloc(), TripBook::new(inner, at), question)
+    let book = TripBook::new(inner, at);
+    match question {
+        Question::Append => refused(rt.alloc(), Batched::new(book), question),
+        _ => refused(rt.alloc(), book, question),
+    }
 }
 
 /// Returns the first call, counted from 0, whose failure does not show in the one question that

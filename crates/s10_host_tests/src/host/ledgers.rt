@@ -137,7 +137,7 @@ fn reported<B: GroupCommit>(alloc: Global, book: B, said: &mut (bool, bool)) -> 
 fn worked<R: Abort + AllocGlobal>(rt: &R) -> (Connection<MemStore>, (bool, bool)) {
     let mut said = (false, false);
     let book = reported(rt.alloc(), ledger(rt, settings()), &mut said);
-    (book.close(), said)
+    (closed(book), said)
 }
 
 #[test]

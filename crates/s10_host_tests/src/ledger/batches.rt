@@ -1,9 +1,9 @@
 //! Batches of a server over a ledger whose commit fails once.
 
 use crate::expect::same;
-use crate::ledger::calls::{ledger, settings};
-use s10_book::{BookFault, GroupCommit, TripBook};
-use s10_ends::{Server, ServerTurn, Turn, serve_batch, serve_one};
+use crate::ledger::calls::{closed, ledger, settings};
+use s10_book::{Batched, BookFault, GroupCommit, TripBook};
+use s10_ends::{Server, ServerTurn, Turn, serve_batch, serve_batch_of_one};
 use s10_link::{Packet, Peer, Receipt, ScriptLink};
 use std::alloc::{AllocError, Global};
 use std::process::Abort;
@@ -98,7 +98,7 @@ fn ends<B: GroupCommit>(
 ) -> bool {
     let (first, second) = cases;
     if !in_batch {
-        return is_turn(&serve_one(server, link, 20_000), first, fails);
+        return is_turn(&serve_batch_of_one(server, link, 20_000), first, fails);
     }
     match serve_batch(alloc, server, link, 20_000, 2) {
         Ok(turns) => {
@@ -145,9 +145,9 @@ fn ends_tripping<B: GroupCommit>(
 fn waits<R: Abort + AllocGlobal>(rt: &R, cases: (&Case, &Case), in_batch: bool) -> Option<u32> {
     let mut count: u32 = 0;
     for at in 0..20u64 {
-        let ledger = ledger(rt, settings(rt, 1000));
-        let (ledger, [at_first, then]) = ends_tripping(rt.alloc(), ledger, at, cases, in_batch);
-        let _ = ledger.close();
+        let book = Batched::new(ledger(rt, settings(rt, 1000)));
+        let (book, [at_first, then]) = ends_tripping(rt.alloc(), book, at, cases, in_batch);
+        let _ = closed(book.into_inner());
         if at_first && !then {
             return None;
         }

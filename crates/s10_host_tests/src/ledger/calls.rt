@@ -1,12 +1,12 @@
 //! Requests and their expected answers as rows, and ledgers that execute them.
 
-use s10_book::{Book, BookFault, GroupCommit, decide};
+use s10_book::{Book, BookFault, decide};
 use s10_core::{Country, Id, Serial, Service};
 use s10_history::{Entry, Settings};
-use s10_ledger::SqlBook;
+use s10_ledger::{ClosedBook, SqlBook};
 use s10_rows::LedgerSummary;
 use s10_wire::{Body, Outcome, Request, Status};
-use sqlite::{Connection, MemStore};
+use sqlite::{Alter, Connection, MemStore};
 use std::process::Abort;
 
 /// What a request asks, of RA GB unless the name of the variant says otherwise.
@@ -200,10 +200,13 @@ pub(crate) fn ledger<R: Abort + AllocGlobal>(rt: &R, settings: Settings) -> SqlB
     }
 }
 
-/// Commits the calls of a ledger, closes it, and returns its connection.
-pub(crate) fn closed(mut book: SqlBook<MemStore>) -> Connection<MemStore> {
-    let _ = book.commit();
-    book.close()
+/// Closes a ledger, and returns its connection.
+pub(crate) fn closed<S: Alter>(book: SqlBook<S>) -> Connection<S> {
+    let ClosedBook {
+        connection,
+        committed: _,
+    } = book.close();
+    connection
 }
 
 /// Executes a request as a server does: repeats the kept outcome, or decides and keeps a new call.

@@ -4,7 +4,7 @@ ghost use Rattle.std.specs.Prelude.{◌≤◌};
 
 use crate::expect::same;
 use crate::ledger::calls::{Asked, answer, closed, gb, ledger, ra, request, serial, settings};
-use s10_book::{Book, GroupCommit, PlainBook};
+use s10_book::{Book, PlainBook};
 use s10_history::{HolderKey, SerialSpan};
 use s10_ledger::{NoObserver, SqlBook};
 use s10_wire::Request;
@@ -95,10 +95,9 @@ fn ranges_are_alike<A: Book, B: Book>(one: &mut A, other: &mut B, ranges: u32) -
     true
 }
 
-// Commits and closes the ledger, and opens it again.
-fn opened_again<R: Abort + AllocGlobal>(rt: &R, mut book: SqlBook<MemStore>) -> SqlBook<MemStore> {
-    let _ = book.commit();
-    match SqlBook::open(rt.alloc(), book.close(), &mut NoObserver) {
+// Closes the ledger, and opens it again.
+fn opened_again<R: Abort + AllocGlobal>(rt: &R, book: SqlBook<MemStore>) -> SqlBook<MemStore> {
+    match SqlBook::open(rt.alloc(), closed(book), &mut NoObserver) {
         Ok(book) => book,
         Err(refused) => panic!(rt; "{}", refused.fault),
     }

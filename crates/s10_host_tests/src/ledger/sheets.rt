@@ -160,7 +160,7 @@ fn deliveries_of(alloc: Global, steps: &[Step]) -> Result<Vec<Delivery>, AllocEr
 
 /// Runs a server over the steps, and returns the index of the first whose answer is not the
 /// expected one, if any.
-fn first_wrong_step<B: Book>(
+pub(crate) fn first_wrong_step<B: Book>(
     alloc: Global,
     server: &mut Server<B>,
     steps: &[Step],

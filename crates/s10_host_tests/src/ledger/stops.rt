@@ -2,8 +2,8 @@
 //! table of closed ranges, is opened, and a new ledger commits its calls.
 
 use crate::expect::same;
-use crate::ledger::calls::settings;
-use crate::ledger::committing::{COMMITTED, Told, UNCOMMITTED, commits_three_in};
+use crate::ledger::calls::{closed, settings};
+use crate::ledger::committing::{COMMITTED, Told, UNCOMMITTED, commits_three_in, keeps_five_in};
 use crate::ledger::tables::{OLD_LEDGER, run_batches};
 use s10_book::Book;
 use s10_history::Settings;
@@ -54,6 +54,19 @@ enum Act {
     Open(Global),
     /// Creates a ledger with these settings and commits three calls.
     Commit(Global, Settings),
+    /// Creates a ledger with these settings and keeps five calls.
+    Keep(Global, Settings),
+}
+
+/// What is reported of a new ledger.
+#[derive(Clone, Copy, PartialEq)]
+enum Report {
+    /// The ledger is not created, or no call is executed.
+    Nothing,
+    /// The report of a commit.
+    Committed(Told),
+    /// The number of calls that were kept.
+    Kept(u32),
 }
 
 /// Returns a file with these bytes, all synced, that stops at call `stop`, or `None` if that fails.
@@ -90,7 +103,7 @@ fn ledger_in<S: Alter + Drop>(alloc: Global, conn: Connection<S>) -> (Ended, Con
     match SqlBook::open(alloc, conn, &mut NoObserver) {
         Ok(book) => {
             let calls = book.len();
-            let conn = book.close();
+            let conn = closed(book);
             (ending_of(&conn, calls), conn)
         }
         Err(Refused { fault, connection }) => (Ended::Refused(fault), connection),
@@ -108,20 +121,33 @@ fn ledger_filled<S: Alter + Drop>(mut conn: Connection<S>) -> (Ended, Connection
     (ended, conn)
 }
 
-/// Does this in a connection. Returns how that ended, what is reported for a commit, and the store.
-fn done<S: Alter + Drop>(conn: Connection<S>, act: Act) -> (Ended, Option<Told>, S) {
+/// Does this in a connection. Returns how that ended, what is reported of a new ledger, and the
+/// store.
+fn done<S: Alter + Drop>(conn: Connection<S>, act: &Act) -> (Ended, Report, S) {
     match act {
         Act::Fill => {
             let (ended, conn) = ledger_filled(conn);
-            (ended, None, conn.into_store())
+            (ended, Report::Nothing, conn.into_store())
         }
         Act::Open(alloc) => {
-            let (ended, conn) = ledger_in(alloc, conn);
-            (ended, None, conn.into_store())
+            let (ended, conn) = ledger_in(*alloc, conn);
+            (ended, Report::Nothing, conn.into_store())
         }
         Act::Commit(alloc, settings) => {
-            let (told, conn) = commits_three_in(alloc, settings, conn);
-            (Ended::Unconnected, told, conn.into_store())
+            let (told, conn) = commits_three_in(*alloc, *settings, conn);
+            let report = match told {
+                Some(told) => Report::Committed(told),
+                None => Report::Nothing,
+            };
+            (Ended::Unconnected, report, conn.into_store())
+        }
+        Act::Keep(alloc, settings) => {
+            let (kept, conn) = keeps_five_in(*alloc, *settings, conn);
+            let report = match kept {
+                Some(kept) => Report::Kept(kept),
+                None => Report::Nothing,
+            };
+            (Ended::Unconnected, report, conn.into_store())
         }
     }
 }
@@ -129,8 +155,8 @@ fn done<S: Alter + Drop>(conn: Connection<S>, act: Act) -> (Ended, Option<Told>,
 /// The same for a connection over files.
 fn done_over<D: Disk + Drop>(
     conn: Connection<FileStore<D>>,
-    act: Act,
-) -> (Ended, Option<Told>, FileStore<D>) {
+    act: &Act,
+) -> (Ended, Report, FileStore<D>) {
     done(conn, act)
 }
 
@@ -143,7 +169,7 @@ fn filled<D: Disk + Drop>(alloc: Global, files: Files<D>) -> Option<Files<D>> {
     let Ok(conn) = Connection::open_files(alloc, files, Options::new(7)) else {
         return None;
     };
-    let (ended, _, mut store) = done_over(conn, Act::Fill);
+    let (ended, _, mut store) = done_over(conn, &Act::Fill);
     let is_written = ended == Ended::Incomplete && store.checkpoint().is_ok();
     let files = store.close();
     if is_written { Some(files) } else { None }
@@ -161,23 +187,23 @@ fn done_in<D: Disk + Drop>(
     alloc: Global,
     files: Files<D>,
     options: Options,
-    act: Act,
-) -> (Ended, Option<Told>, Files<D>) {
+    act: &Act,
+) -> (Ended, Report, Files<D>) {
     if !files.may_be_used() {
-        return (Ended::Unconnected, None, files);
+        return (Ended::Unconnected, Report::Nothing, files);
     }
     match Connection::open_files(alloc, files, options) {
         Ok(conn) => {
-            let (ended, told, store) = done_over(conn, act);
-            (ended, told, store.close())
+            let (ended, report, store) = done_over(conn, act);
+            (ended, report, store.close())
         }
-        Err((_, left)) => (Ended::Unconnected, None, left.into_files()),
+        Err((_, left)) => (Ended::Unconnected, Report::Nothing, left.into_files()),
     }
 }
 
 /// Opens the ledger in files. Returns how that ended, and the files.
 fn opened<D: Disk + Drop>(alloc: Global, files: Files<D>, options: Options) -> (Ended, Files<D>) {
-    let (ended, _, files) = done_in(alloc, files, options, Act::Open(alloc));
+    let (ended, _, files) = done_in(alloc, files, options, &Act::Open(alloc));
     (ended, files)
 }
 
@@ -248,38 +274,82 @@ fn a_ledger_whose_completion_stopped_is_whole(rt: HostRuntime) {
     same(&rt, &counts, &are_met, &[true; 4]);
 }
 
-/// Commits three calls over empty files whose log stops at call `at`. Returns what is reported, and
-/// how the ledger then opens in files that do not stop, with only the bytes synced.
-fn committed_until(alloc: Global, settings: Settings, at: u64) -> Option<(Option<Told>, Ended)> {
-    let log = Fuse::new(Memory::new(alloc), at);
-    let db = Fuse::new(Memory::new(alloc), NEVER);
-    let commit = Act::Commit(alloc, settings);
-    let (_, told, mut files) = done_in(alloc, Files { log, db }, Options::new(7), commit);
+/// Does this over empty files that stop. Returns what is reported, and how the ledger then opens in
+/// files that do not stop, with only the bytes synced.
+fn done_until(alloc: Global, act: &Act, stops: Stops) -> Option<(Report, Ended)> {
+    let log = Fuse::new(Memory::new(alloc), stops.log);
+    let db = Fuse::new(Memory::new(alloc), stops.db);
+    let (_, report, mut files) = done_in(alloc, Files { log, db }, stops.options, act);
     files.log.crash();
     files.db.crash();
-    Some((told, again(alloc, &files)?))
+    Some((report, again(alloc, &files)?))
 }
 
-/// Returns for how many calls of the log a stop fails the commit, before it succeeds. Returns
-/// `None` if a committed call is lost, or if an uncommitted call is reported as committed or found
-/// without the others.
-fn failed_commits(alloc: Global, settings: Settings) -> Option<u32> {
+/// Returns whether each call that was reported as committed is found, and no other call, except all
+/// those of a commit that failed. Returns `None` if no stop was met.
+fn stands(report: Report, ended: Ended) -> Option<bool> {
+    match (report, ended) {
+        (Report::Nothing, _) => Some(true),
+        (Report::Committed(told), Ended::Found(5)) if told == COMMITTED => None,
+        (Report::Committed(told), Ended::Found(2 | 5)) => Some(told == UNCOMMITTED),
+        (Report::Kept(5), Ended::Found(5)) => None,
+        (Report::Kept(kept), Ended::Found(found)) => {
+            Some(kept < 5 && (found == kept || found == kept + 1))
+        }
+        _ => Some(false),
+    }
+}
+
+/// Returns for how many calls of one file a stop makes the act fail once the ledger is created.
+/// Returns `None` if a call that was reported as committed is lost, or another call is found.
+fn failures(alloc: Global, act: &Act, options: Options, in_log: bool) -> Option<u32> {
     let mut count: u32 = 0;
-    for at in 0..1000u64 {
-        match committed_until(alloc, settings, at)? {
-            (None, _) => {}
-            (Some(told), Ended::Found(5)) if told == COMMITTED => return Some(count),
-            (Some(told), Ended::Found(2 | 5)) if told == UNCOMMITTED => {
-                count = count.saturating_add(1);
+    for at in 0..2000u64 {
+        let (log, db) = if in_log { (at, NEVER) } else { (NEVER, at) };
+        let (report, ended) = done_until(alloc, act, Stops { options, log, db })?;
+        match stands(report, ended) {
+            None => return Some(count),
+            Some(true) => {
+                if report != Report::Nothing {
+                    count = count.saturating_add(1);
+                }
             }
-            (Some(_), _) => return None,
+            Some(false) => return None,
         }
     }
     None
 }
 
+/// The same for the log, for the log that is copied at once, and for the database file into which
+/// it is copied.
+fn failures_of_each_file(alloc: Global, act: &Act) -> [Option<u32>; 3] {
+    [
+        failures(alloc, act, Options::new(7), true),
+        failures(alloc, act, TIGHT, true),
+        failures(alloc, act, TIGHT, false),
+    ]
+}
+
+/// Returns for each file whether a stop made the act fail, and every call reported as committed was
+/// found.
+fn are_met(counts: &[Option<u32>; 3]) -> [bool; 3] {
+    [
+        counts[0].is_some_and(|count| 0 < count),
+        counts[1].is_some_and(|count| 0 < count),
+        counts[2].is_some_and(|count| 0 < count),
+    ]
+}
+
 #[test]
-fn a_failed_commit_commits_no_call(rt: HostRuntime) {
-    let failed = failed_commits(rt.alloc(), settings(&rt, 100));
-    assert!(rt; failed.is_some_and(|count| 0 < count), "{failed:?}");
+fn a_failed_commit_commits_all_pending_calls_or_none(rt: HostRuntime) {
+    let act = Act::Commit(rt.alloc(), settings(&rt, 100));
+    let counts = failures_of_each_file(rt.alloc(), &act);
+    same(&rt, &counts, &are_met(&counts), &[true; 3]);
+}
+
+#[test]
+fn a_kept_call_is_found_after_a_stop(rt: HostRuntime) {
+    let act = Act::Keep(rt.alloc(), settings(&rt, 100));
+    let counts = failures_of_each_file(rt.alloc(), &act);
+    same(&rt, &counts, &are_met(&counts), &[true; 3]);
 }

@@ -1,6 +1,7 @@
 //! Databases created by statements, and what an opening finds in them.
 
 use crate::expect::same;
+use crate::ledger::calls::closed;
 use s10_book::Book;
 use s10_ledger::{NoObserver, OpenFault, Refused, SqlBook};
 use s10_rows::LedgerSummary;
@@ -150,7 +151,7 @@ pub(crate) fn found<S: Alter + Drop>(
                 len: book.len(),
                 day: book.day(),
             };
-            Some((Ok(opened), book.close()))
+            Some((Ok(opened), closed(book)))
         }
         Err(Refused { fault, connection }) => Some((Err(fault), connection)),
     }

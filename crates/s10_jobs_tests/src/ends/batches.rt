@@ -261,17 +261,22 @@ const TWO_DRAWS: Script = Script {
     calls: 4,
 };
 
-/// Returns whether a batch of two Draws sends both replies, and the fault of a commit after it.
-fn sent_then_committed<B: GroupCommit + Drop>(alloc: Global, book: B) -> (bool, Option<BookFault>) {
+/// Returns whether a server over the book follows a script, and the fault of a commit after it.
+fn served_then_commits<B: GroupCommit + Drop>(
+    alloc: Global,
+    book: B,
+    script: &Script,
+) -> (bool, Option<BookFault>) {
     let mut server = Server::new(book);
-    let is_sent = follows_script(alloc, &mut server, &TWO_DRAWS);
-    (is_sent, server.commit().err())
+    let is_served = follows_script(alloc, &mut server, script);
+    (is_served, server.commit().err())
 }
 
-/// The same for a book with the first Grant that fails at call `at` from then on, counted from 0.
+/// The same for two Draws, over a book with the first Grant that fails at call `at` from then on,
+/// counted from 0.
 fn served_then_committed(alloc: Global, at: u64) -> (bool, Option<BookFault>) {
     let book = granted_server(alloc, 100).into_book();
-    sent_then_committed(alloc, TripBook::new(book, at))
+    served_then_commits(alloc, TripBook::new(book, at), &TWO_DRAWS)
 }
 
 /// Returns for how many of the first 20 calls of the book a failure keeps a reply from being sent.
@@ -294,4 +299,32 @@ fn replies_to_committed_calls_are_sent_even_if_a_commit_fails(rt: HostRuntime) {
     let next = own.saturating_add(1);
     assert!(rt; served_then_committed(rt.alloc(), own) == (true, None));
     assert!(rt; served_then_committed(rt.alloc(), next) == (true, Some(BookFault::Store)));
+}
+
+/// Two datagrams that ask nothing, then no datagram.
+const NOTHING_ASKED: Script = Script {
+    receipts: &[
+        Meets::Bytes(PEER, b"S1"),
+        Meets::Bytes(OTHER, b"S1"),
+        Meets::Nothing,
+    ],
+    sends: &[],
+    batches: &[(
+        8,
+        &[
+            Ends::Dropped(PEER, WireFault::Short),
+            Ends::Dropped(OTHER, WireFault::Short),
+        ],
+        0,
+    )],
+    replies: &[],
+    calls: 3,
+};
+
+// The first call of the book fails. It is the commit after the batch, not a call of the batch.
+#[test]
+fn a_batch_without_a_reply_reaches_no_book(rt: HostRuntime) {
+    let book = TripBook::new(granted_server(rt.alloc(), 100).into_book(), 0);
+    let found = served_then_commits(rt.alloc(), book, &NOTHING_ASKED);
+    assert!(rt; found == (true, Some(BookFault::Store)));
 }

@@ -7,8 +7,8 @@ use crate::ends::fixtures::{
 use crate::ends::turn_ends::{Ends, is_expected_turn};
 use crate::expect::holds_at;
 use crate::links::{Meets, link_of, link_with_failure};
-use s10_book::{Book, BookFault, GroupCommit};
-use s10_ends::{Server, serve_one};
+use s10_book::{Book, BookFault, GroupCommit, PlainBook};
+use s10_ends::{Server, serve_batch_of_one, serve_one};
 use s10_link::{Link, LinkFault, Peer, ScriptLink};
 use s10_wire::WireFault;
 use std::alloc::Global;
@@ -26,7 +26,7 @@ const OTHER: Peer = Peer {
 
 /// Returns whether the next turn of a server ends as expected.
 fn serves<B: GroupCommit, L: Link>(server: &mut Server<B>, link: &mut L, ends: &Ends) -> bool {
-    is_expected_turn(&serve_one(server, link, 20_000), ends)
+    is_expected_turn(&serve_batch_of_one(server, link, 20_000), ends)
 }
 
 /// A script of a link, and what is expected of the turns over it.
@@ -60,6 +60,24 @@ fn follow_script<B: GroupCommit + Drop>(
     assert!(rt; server.book().len() == script.calls);
 }
 
+/// Asserts that the single turns of a server over a durable book end as expected.
+fn follow_script_by_turns(
+    rt: &impl Abort,
+    alloc: Global,
+    mut server: Server<PlainBook>,
+    script: &Script,
+) {
+    let Ok(mut link) = link_of(alloc, script.receipts, script.sends) else {
+        panic!(rt; "no link");
+    };
+    for (at, ends) in script.turns.iter().enumerate() {
+        let turn = serve_one(&mut server, &mut link, 20_000);
+        holds_at(rt, at, is_expected_turn(&turn, ends));
+    }
+    assert!(rt; has_sent(&link, script.sent));
+    assert!(rt; server.book().len() == script.calls);
+}
+
 /// A Draw arrives again after its reply could not be sent.
 const UNSENT: Script = Script {
     receipts: &[Meets::Bytes(PEER, DRAW), Meets::Bytes(PEER, DRAW)],
@@ -73,6 +91,8 @@ const UNSENT: Script = Script {
 fn reply_that_was_not_sent_is_kept(rt: HostRuntime) {
     let server = granted_server(rt.alloc(), 100);
     follow_script(&rt, rt.alloc(), server, &UNSENT);
+    let server = granted_server(rt.alloc(), 100);
+    follow_script_by_turns(&rt, rt.alloc(), server, &UNSENT);
 }
 
 /// Nothing, two datagrams that are no requests, a new Draw to a full book, and the first Grant
@@ -102,6 +122,8 @@ const UNANSWERED: Script = Script {
 fn turns_without_a_reply_send_nothing(rt: HostRuntime) {
     let server = granted_server(rt.alloc(), 1);
     follow_script(&rt, rt.alloc(), server, &UNANSWERED);
+    let server = granted_server(rt.alloc(), 1);
+    follow_script_by_turns(&rt, rt.alloc(), server, &UNANSWERED);
 }
 
 /// Customer 7's third Draw.

@@ -9,4 +9,4 @@ pub candidate-requires : goal.candidate-requires
 candidate-requires g c = λ h.
     let e : c.in_ok-found.found ≡ find (λ (r : Range). r.num == 1)
     (ranges_of (g.B.Book.history c.args.book.now)) = c.in_ok-found.ensures.answer h in
-    rw (c.range.ensures.keeps.same_history h) (Contains-find _ _ _ (sym e ∙ c.in-Some.is))
+    rw (c.range.ensures.unchanged.same_history h) (Contains-find _ _ _ (sym e ∙ c.in-Some.is))
