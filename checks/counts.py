@@ -82,20 +82,21 @@ def public_functions():
 
 
 def theorem_counts():
-    """The numbers of checks/definition_lines.py: of both functions together, and of each."""
+    """The numbers of checks/definition_lines.py: of the first two functions together, and of each."""
     each, (clause_lines, both) = definition_lines.main_theorem()
     counts = {
         "clause-lines": clause_lines,
-        "definitions": len(both.definitions),
+        "definitions": len(both.names()),
         "definition-lines": both.lines(),
         "types": len(both.types),
         "kit-words": len(both.kit),
     }
     for function, lines, cited in each:
-        name = function.split("::")[0].lower()
+        name = function.split("::")[0].lower().replace("_", "-")
         counts[f"{name}-clause-lines"] = lines
-        counts[f"{name}-definitions"] = len(cited.definitions)
+        counts[f"{name}-definitions"] = len(cited.names())
         counts[f"{name}-definition-lines"] = cited.lines()
+        counts[f"{name}-types"] = len(cited.types)
     return counts
 
 

@@ -1,23 +1,26 @@
 #!/usr/bin/env python3
 """Counts the lines of definitions that a reader must read to know what the main theorem says: the definitions in specs/ that the
-clauses of Server::run and of World::run cite, and those that these cite in turn.
+clauses of Server::run and of World::run cite, and those that these cite in turn. The same for serve_turns, which says what the
+program serves.
 
-    python3 checks/definition_lines.py           how many definitions and lines, for each function and for both
+    python3 checks/definition_lines.py           how many definitions and lines, for each function and for the first two
     python3 checks/definition_lines.py --names   also the definitions file by file, the types and the kit's words
 
-A clause or a definition cites each word in it that is defined in its own file or that a `use` line brings in. Comments, empty
-lines and `use` lines are not counted. Two kinds of cited names are listed and have no counted lines: types of the code
-(`declared`), and words of the kit (`std`)."""
+A clause or a definition cites each word in it that is defined in its own file or that a `use` line brings in. A definition within
+a module also cites the module's head. Comments, empty lines and `use` lines are not counted. Two kinds of cited names are listed
+and have no counted lines: types of the code (`declared`), and words of the kit (`std`)."""
 import os
 import re
 import sys
 
 CRATES = os.path.join(os.path.dirname(os.path.realpath(__file__)), "..", "crates")
 FUNCTIONS = [("s10_ends", "server.rt", "Server::run"), ("s10_world", "world.rt", "World::run")]
+SERVING = ("s10_jobs", "turns.rt", "serve_turns")
 USE = re.compile(r"use Rattle\.(s10_\w+|std)\.specs\.([\w.]+?)(?:\.\{([^}]*)\}| as (\w+))")
 HEAD = re.compile(r"(?:pub )?(?:abbrev|unfoldable|record|data) (?:pub )?([\w']+)")
+HEAD_IN_MODULE = re.compile(r"  (?:pub (?:record|data)|(?:abbrev|unfoldable) pub) ([\w']+)")
 WORD = re.compile(r"[A-Za-z_][\w']*")
-files = {}
+files, modules = {}, {}
 
 
 class Cited:
@@ -33,6 +36,17 @@ class Cited:
 
     def lines(self):
         return sum(self.definitions.values())
+
+    def without(self, other):
+        """What only this one cites."""
+        rest = Cited()
+        rest.definitions = {target: lines for target, lines in self.definitions.items() if target not in other.definitions}
+        rest.types, rest.kit = self.types - other.types, self.kit - other.kit
+        return rest
+
+    def names(self):
+        """The names of the definitions, each with its crate and file. The head of a module has none."""
+        return [target for target in self.definitions if not target[2].startswith("module ")]
 
 
 def read(*path):
@@ -54,12 +68,18 @@ def definitions_of(crate, file):
     """The definitions of a file with their lines, and what its `use` lines bring in."""
     if (crate, file) not in files:
         text = read(crate, "specs", file + ".antt")
-        found, name = {}, None
-        for line in text.split("\n"):
+        found, name, module = {}, None, None
+        for index, line in enumerate(text.split("\n")):
             if not line.strip() or re.match(r"\s*--|use |ghost use |pub mod ", line):
                 continue
-            head = HEAD.match(line)
-            name = head.group(1) if head else name
+            head, inner = HEAD.match(line), HEAD_IN_MODULE.match(line)
+            if line.startswith("module "):
+                name = module = f"module {index}"
+            elif head:
+                name = head.group(1)
+            elif inner:
+                name = inner.group(1)
+                modules[crate, file, name] = (crate, file, module)
             found.setdefault(name, []).append(line)
         files[crate, file] = found, scope_of(text)
     return files[crate, file]
@@ -92,32 +112,37 @@ def cite(target, cited):
         found, scope = definitions_of(crate, file)
         cited.definitions[target] = len(found[name])
         cite_text("\n".join(found[name]), {word: (crate, file, word) for word in found}, scope, cited)
+        if target in modules:
+            cite(modules[target], cited)
 
 
 def clauses_of(crate, file, function):
     """The lines of a function's clauses, and what its file's `use` lines bring in."""
     text = read(crate, "src", file)
-    start = text.index("    pub fn " + function.split("::")[1] + "(")
-    lines = text[start : text.index("\n    {\n", start)].split("\n")[1:]
-    return [line for line in lines if line.strip() and not line.strip().startswith("//")], scope_of(text)
+    head = re.search(rf"^( *)pub fn {function.split('::')[-1]}[(<]", text, re.M)
+    lines = text[head.start() : text.index(f"\n{head.group(1)}{{\n", head.start())].split("\n")
+    lines = [line for line in lines if line.strip() and not line.strip().startswith("//")]
+    first = next(index for index, line in enumerate(lines) if line.strip().startswith(("requires", "ensures")))
+    return lines[first:], scope_of(text)
 
 
 def main_theorem():
-    """For each function its clauses' lines and what they cite; and the same for both together."""
+    """For each function its clauses' lines and what they cite; and the same for the first two together."""
     both, clause_lines, each = Cited(), 0, []
-    for crate, file, function in FUNCTIONS:
+    for crate, file, function in [*FUNCTIONS, SERVING]:
         lines, scope = clauses_of(crate, file, function)
         cited = Cited()
         cite_text("\n".join(lines), {}, scope, cited)
         each.append((function, len(lines), cited))
+    for _, lines, cited in each[: len(FUNCTIONS)]:
         both.add(cited)
-        clause_lines += len(lines)
+        clause_lines += lines
     return each, (clause_lines, both)
 
 
 def print_names(cited):
-    for place in sorted({target[:2] for target in cited.definitions}):
-        names = [name for crate, file, name in cited.definitions if (crate, file) == place]
+    for place in sorted({target[:2] for target in cited.names()}):
+        names = [name for crate, file, name in cited.names() if (crate, file) == place]
         print(f"{place[0]}/specs/{place[1]}.antt: {' '.join(sorted(names))}")
     print(f"types: {' '.join(sorted(cited.types))}")
     print(f"kit: {' '.join(sorted(cited.kit))}")
@@ -126,11 +151,14 @@ def print_names(cited):
 def main():
     each, (clause_lines, both) = main_theorem()
     for function, lines, cited in each:
-        print(f"{function}: {lines} lines of clauses, {len(cited.definitions)} definitions of {cited.lines()} lines")
-    print(f"both: {clause_lines} lines of clauses, {len(both.definitions)} definitions of {both.lines()} lines,", end=" ")
+        print(f"{function}: {lines} lines of clauses, {len(cited.names())} definitions of {cited.lines()} lines")
+    print(f"the first two: {clause_lines} lines of clauses, {len(both.names())} definitions of {both.lines()} lines,", end=" ")
     print(f"over {len(both.types)} types and {len(both.kit)} words of the kit")
     if "--names" in sys.argv[1:]:
         print_names(both)
+        function, _, cited = each[-1]
+        print(f"only {function}:")
+        print_names(cited.without(both))
 
 
 if __name__ == "__main__":
