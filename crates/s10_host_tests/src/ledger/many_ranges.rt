@@ -97,7 +97,9 @@ fn ranges_are_alike<A: Book, B: Book>(one: &mut A, other: &mut B, ranges: u32) -
 
 // Closes the ledger, and opens it again.
 fn opened_again<R: Abort + AllocGlobal>(rt: &R, book: SqlBook<MemStore>) -> SqlBook<MemStore> {
-    match SqlBook::open(rt.alloc(), closed(book), &mut NoObserver) {
+    let connection = closed(book);
+    assert!(rt; connection.is_autocommit());
+    match SqlBook::open(rt.alloc(), connection, &mut NoObserver) {
         Ok(book) => book,
         Err(refused) => panic!(rt; "{}", refused.fault),
     }
