@@ -13,7 +13,7 @@ import subprocess
 import sys
 
 WORD = re.compile(r"[A-Za-z_][\w']*(?:-[A-Za-z_][\w']*)*|\"(?:\\.|[^\"\\])*\"|\S")
-HEAD = re.compile(r"^(\s*)(?:#\[.*\] )?(pub )?(?:const )?fn (\w+)", re.M)
+HEAD = re.compile(r"^([ \t]*)(?:#\[.*\] )?(pub )?(?:const )?fn (\w+)", re.M)
 CLAUSE = re.compile(r"\s*(\*?(?:requires|ensures))\b")
 NAME = re.compile(r"[A-Za-z_\"]")
 LAST_SEPARATOR = re.compile(r"[,;](?=\s*[)\]}])")
