@@ -55,9 +55,15 @@ impl<B: GroupCommit> Book for Batched<B> {
 
     ghost honest = { B.honest };
 
+    ghost clean = { B.clean };
+
+    ghost may_find = { B.may_find };
+
     ghost legal = { B.legal };
 
     ghost first = { B.first };
+
+    ghost found = { B.found };
 
     fn settings(&self) -> Settings {
         self.inner.settings()

@@ -15,6 +15,8 @@ use s10_history::{Candidate, Entry, HolderKey, Issue, Range, SerialSpan, Setting
 ///   none. A count stays at the greatest u64.
 /// - No call returns `Full`.
 /// - A call that fails leaves the history and the settings of an honest book unchanged.
+/// - A call that succeeds over a clean store ends with an honest book.
+/// - What a stop leaves holds for every book whose store is clean as the call ends.
 pub trait Book {
     ghost use Rattle.s10_history.specs.declared.entry.Entry.{Entry};
     ghost use Rattle.s10_book.specs.declared.faults.Faults.{Faults};
@@ -28,9 +30,10 @@ pub trait Book {
     ghost use Rattle.s10_history.specs.Usage.{usage_of};
     ghost use Rattle.s10_book.specs.Rules.{MayFollow, IsLegal};
     ghost use Rattle.s10_book.specs.BookFault.{CountsResult};
-    ghost use Rattle.s10_book.specs.Book.{Grows, Unchanged};
+    ghost use Rattle.s10_book.specs.Book.{Grows, FindsAfter, Unchanged};
     ghost use Rattle.std.specs.Prelude.{◌≡◌, ℕ, ◌++◌, ◌∷◌, [], ◌<◌, ◌≤◌, ◌==◌, List, length, find};
     ghost use Rattle.std.specs.Prelude.{IfOk, IfSome, IsTrue, OnErr, OnOk, Contains, slice_get};
+    ghost use Rattle.std.specs.Prelude.{Option, Some};
 
     /// The kept calls.
     ghost history: { Self → List Entry };
@@ -49,6 +52,14 @@ pub trait Book {
 
     /// Whether the store beneath the book works as promised.
     ghost honest: { Self → Type 0 };
+
+    /// Whether the store has returned what was written to it so far. The store of a clean book that
+    /// is not honest has failed.
+    ghost clean: { Self → Type 0 };
+
+    /// What an opening may find if the process stops now: `Some` of the calls, or `None` if it
+    /// finds no book.
+    ghost may_find: { Self → Option (List Entry) → Type 0 };
 
     /// Returns the settings with which the book was created.
     fn settings(&self) -> Settings
@@ -71,7 +82,9 @@ pub trait Book {
     /// - `Store` if the store fails.
     fn find(&mut self, customer: u32, number: u32) -> Result<Option<Entry>, BookFault>
         ensures faults { CountsResult result (faults self.old) (faults self.new) }
-        ensures unchanged { Unchanged history committed terms honest self.old self.new }
+        ensures unchanged { Unchanged history committed terms honest clean may_find self.old
+            self.new }
+        ensures opened { clean self.new → OnOk result (honest self.new) }
         ensures answer { honest self.new
             → IfOk result (λ e. e ≡ find_entry (history self.old) customer number) }
 
@@ -87,7 +100,9 @@ pub trait Book {
     /// - `Store` if the store fails.
     fn entry(&mut self, at: u32) -> Result<Option<Entry>, BookFault>
         ensures faults { CountsResult result (faults self.old) (faults self.new) }
-        ensures unchanged { Unchanged history committed terms honest self.old self.new }
+        ensures unchanged { Unchanged history committed terms honest clean may_find self.old
+            self.new }
+        ensures opened { clean self.new → OnOk result (honest self.new) }
         ensures answer { honest self.new → IfOk result (λ e. e ≡ entry_at (history self.old) at) };
 
     /// Returns the range with this number, from 1, if there is one.
@@ -98,7 +113,9 @@ pub trait Book {
     /// - `Store` if the store fails.
     fn range(&mut self, num: u32) -> Result<Option<Range>, BookFault>
         ensures faults { CountsResult result (faults self.old) (faults self.new) }
-        ensures unchanged { Unchanged history committed terms honest self.old self.new }
+        ensures unchanged { Unchanged history committed terms honest clean may_find self.old
+            self.new }
+        ensures opened { clean self.new → OnOk result (honest self.new) }
         ensures answer { honest self.new
             → IfOk result (λ r. r ≡ find (λ x. x.num == num) (ranges_of (history self.old))) };
 
@@ -110,7 +127,9 @@ pub trait Book {
     /// - `Store` if the store fails.
     fn closed(&mut self, num: u32) -> Result<bool, BookFault>
         ensures faults { CountsResult result (faults self.old) (faults self.new) }
-        ensures unchanged { Unchanged history committed terms honest self.old self.new }
+        ensures unchanged { Unchanged history committed terms honest clean may_find self.old
+            self.new }
+        ensures opened { clean self.new → OnOk result (honest self.new) }
         ensures answer { honest self.new
             → IfOk result (λ b. b ≡ is_closed (history self.old) num) };
 
@@ -122,7 +141,9 @@ pub trait Book {
     /// - `Store` if the store fails.
     fn next_range(&mut self, held: &HolderKey, after: u32) -> Result<Option<Range>, BookFault>
         ensures faults { CountsResult result (faults self.old) (faults self.new) }
-        ensures unchanged { Unchanged history committed terms honest self.old self.new }
+        ensures unchanged { Unchanged history committed terms honest clean may_find self.old
+            self.new }
+        ensures opened { clean self.new → OnOk result (honest self.new) }
         ensures above { IfOk result (λ found. IfSome found (λ r. after < r.num)) }
         ensures answer { honest self.new
             → IfOk result (λ found. found
@@ -137,7 +158,9 @@ pub trait Book {
     /// - `Store` if the store fails.
     fn covering(&mut self, span: &SerialSpan) -> Result<Option<Range>, BookFault>
         ensures faults { CountsResult result (faults self.old) (faults self.new) }
-        ensures unchanged { Unchanged history committed terms honest self.old self.new }
+        ensures unchanged { Unchanged history committed terms honest clean may_find self.old
+            self.new }
+        ensures opened { clean self.new → OnOk result (honest self.new) }
         ensures answer { honest self.new
             → IfOk result (λ found. found
             ≡ find (overlaps span.now.service span.now.country span.now.first span.now.last)
@@ -151,7 +174,9 @@ pub trait Book {
     /// - `Store` if the store fails.
     fn last_issue(&mut self, id: &Id) -> Result<Option<Issue>, BookFault>
         ensures faults { CountsResult result (faults self.old) (faults self.new) }
-        ensures unchanged { Unchanged history committed terms honest self.old self.new }
+        ensures unchanged { Unchanged history committed terms honest clean may_find self.old
+            self.new }
+        ensures opened { clean self.new → OnOk result (honest self.new) }
         ensures answer { honest self.new
             → IfOk result (λ i. i ≡ last_issue_of (history self.old) id.now) };
 
@@ -165,7 +190,9 @@ pub trait Book {
     fn candidate(&mut self, range: &Range) -> Result<Candidate, BookFault>
         requires { honest self.old → Contains (ranges_of (history self.old)) range.now }
         ensures faults { CountsResult result (faults self.old) (faults self.new) }
-        ensures unchanged { Unchanged history committed terms honest self.old self.new }
+        ensures unchanged { Unchanged history committed terms honest clean may_find self.old
+            self.new }
+        ensures opened { clean self.new → OnOk result (honest self.new) }
         ensures answer { honest self.new
             → IfOk result (λ c. c ≡ candidate_of (history self.old) range.now) };
 
@@ -182,7 +209,9 @@ pub trait Book {
         requires there { honest self.old → Contains (ranges_of (history self.old)) range.now }
         requires fewer { issued < size_of range.now }
         ensures faults { CountsResult result (faults self.old) (faults self.new) }
-        ensures unchanged { Unchanged history committed terms honest self.old self.new }
+        ensures unchanged { Unchanged history committed terms honest clean may_find self.old
+            self.new }
+        ensures opened { clean self.new → OnOk result (honest self.new) }
         ensures answer { honest self.new
             → IfOk result (λ c. c ≡ candidate_after_of (history self.old) range.now issued) };
 
@@ -198,12 +227,14 @@ pub trait Book {
     fn usage(&mut self, range: &Range, day: u32) -> Result<Usage, BookFault>
         requires { honest self.old → Contains (ranges_of (history self.old)) range.now }
         ensures faults { CountsResult result (faults self.old) (faults self.new) }
-        ensures unchanged { Unchanged history committed terms honest self.old self.new }
+        ensures unchanged { Unchanged history committed terms honest clean may_find self.old
+            self.new }
+        ensures opened { clean self.new → OnOk result (honest self.new) }
         ensures answer { honest self.new
             → IfOk result (λ u. u ≡ usage_of (history self.old) range.now day
             (terms self.old).interval) };
 
-    /// Adds a call at the end of the history.
+    /// Adds a call at the end of the history. A durable book has then committed all its calls.
     ///
     /// The call must be one that may follow: a new key, a day that is not before the book's, and
     /// the outcome of the rules. The limit must not be reached.
@@ -223,11 +254,19 @@ pub trait Book {
         ensures stays_committed { honest self.new
             → Grows (committed self.old) (committed self.new) }
         ensures committed { durable → honest self.new
-            → OnOk result (committed self.new ≡ history self.new) };
+            → OnOk result (committed self.new ≡ history self.new) }
+        ensures opened { clean self.new → OnOk result (honest self.new) }
+        ensures stop { FindsAfter committed honest clean may_find self.old self.new (history
+            self.old
+            ++ entry ∷ []) };
 
     // The history of an honest book is legal.
     ghost legal: { (book : Self) → honest book → IsLegal (history book) (terms book) };
 
     // The committed calls come first in the history.
     ghost first: { (book : Self) → honest book → Grows (committed book) (history book) };
+
+    // An opening finds the committed calls of an honest book.
+    ghost found: { (book : Self) → honest book → (found : Option (List Entry))
+        → may_find book found → found ≡ Some (committed book) };
 }

@@ -25,7 +25,8 @@ fn free_pick<B: Book>(
 ) -> Result<Option<Id>, BookFault>
     requires { B.honest book.old → Contains (ranges_of (B.history book.old)) range.now }
     ensures faults { CountsResult result (B.faults book.old) (B.faults book.new) }
-    ensures unchanged { Unchanged B.history B.committed B.terms B.honest book.old book.new }
+    ensures unchanged { Unchanged B.history B.committed B.terms B.honest B.clean B.may_find book.old
+        book.new }
     ensures answer { B.honest book.new
         → IfOk result (λ x. x ≡ free_pick_of (B.history book.old) range.now issued day interval) }
 {
@@ -61,7 +62,8 @@ pub fn successive_draws<B: Book>(
     day: u32,
 ) -> Result<Option<Ids>, BookFault>
     ensures faults { CountsResult result (B.faults book.old) (B.faults book.new) }
-    ensures unchanged { Unchanged B.history B.committed B.terms B.honest book.old book.new }
+    ensures unchanged { Unchanged B.history B.committed B.terms B.honest B.clean B.may_find book.old
+        book.new }
     ensures answer { B.honest book.new
         → IfOk result (λ ids. ids ≡ successive_draws_of (B.history book.old) customer service
         country day (B.terms book.old).interval count) }

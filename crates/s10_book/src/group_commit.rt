@@ -9,11 +9,11 @@ use s10_history::Entry;
 pub trait GroupCommit: Book {
     ghost use Rattle.s10_book.specs.Rules.{MayFollow};
     ghost use Rattle.s10_book.specs.BookFault.{CountsResult};
-    ghost use Rattle.s10_book.specs.Book.{Grows, Unchanged};
+    ghost use Rattle.s10_book.specs.Book.{Grows, FindsAfter, Unchanged};
     ghost use Rattle.s10_book.specs.GroupCommit.{IsCommittedCall};
     ghost use Rattle.std.specs.Prelude.{◌≡◌, ◌↔◌, ◌++◌, ◌∷◌, [], IsTrue, OnErr, OnOk};
 
-    /// Adds one entry at the end of the history, like `keep`, but need not commit it.
+    /// Adds a call at the end of the history, as `keep` does. It need not be committed.
     ///
     /// # Errors
     ///
@@ -30,20 +30,23 @@ pub trait GroupCommit: Book {
         ensures err { Self.honest self.new
             → OnErr result (Self.history self.new ≡ Self.history self.old) }
         ensures stays_committed { Self.honest self.new
-            → Grows (Self.committed self.old) (Self.committed self.new) };
+            → Grows (Self.committed self.old) (Self.committed self.new) }
+        ensures opened { Self.clean self.new → OnOk result (Self.honest self.new) }
+        ensures stop { FindsAfter Self.committed Self.honest Self.clean Self.may_find self.old
+            self.new (Self.history self.old ++ entry ∷ []) };
 
-    /// Commits all pending calls.
+    /// Commits all pending calls. After an error the committed calls of an honest book are the same
+    /// as before.
     ///
     /// # Errors
     ///
     /// - `Memory` if memory is refused.
     /// - `Store` if the store fails.
-    ///
-    /// The committed calls of an honest book are then the same as before.
     fn commit(&mut self) -> Result<(), BookFault>
         ensures faults { CountsResult result (Self.faults self.old) (Self.faults self.new) }
-        ensures unchanged { Unchanged Self.history Self.committed Self.terms Self.honest self.old
-            self.new }
+        ensures unchanged { Unchanged Self.history Self.committed Self.terms Self.honest Self.clean
+            Self.may_find self.old self.new }
+        ensures opened { Self.clean self.new → OnOk result (Self.honest self.new) }
         ensures done { Self.honest self.new
             → OnOk result (Self.committed self.new ≡ Self.history self.new) }
         ensures left { Self.honest self.new

@@ -2,7 +2,7 @@
 
 ghost use Rattle.std.specs.Prelude.{◌≡◌, ◌∷◌, ◌++◌, [], ⊤, OnOk, OnErr, IfOk, IfErr, IfSome};
 ghost use Rattle.std.specs.Prelude.{IsTrue, Contains, find, ◌==◌, ◌<◌, ◌≤◌, ◌+◌, ◌-◌, ◌^◌, vec_len};
-ghost use Rattle.std.specs.Prelude.{vec_capacity, length, option_to_list};
+ghost use Rattle.std.specs.Prelude.{vec_capacity, length, option_to_list, Some};
 ghost use Rattle.s10_wire.specs.Kind.{fits};
 ghost use Rattle.s10_history.specs.Settings.{Terms};
 ghost use Rattle.s10_history.specs.History.{ranges_of, range_of_grant, find_entry, entry_at};
@@ -149,9 +149,15 @@ impl Book for PlainBook {
 
     ghost honest = { λ b. ⊤ };
 
+    ghost clean = { λ b. ⊤ };
+
+    ghost may_find = { λ b found. found ≡ Some b.entries.items };
+
     ghost legal = { λ b h. b.legal };
 
     ghost first = { λ b h. ([], sym (append-nil b.entries.items)) };
+
+    ghost found = { λ b h found may. may };
 
     fn settings(&self) -> Settings {
         self.settings

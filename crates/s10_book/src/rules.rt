@@ -28,7 +28,8 @@ fn decide_draw<B: Book>(
     day: u32,
 ) -> Result<Outcome, BookFault>
     ensures faults { CountsResult result (B.faults book.old) (B.faults book.new) }
-    ensures unchanged { Unchanged B.history B.committed B.terms B.honest book.old book.new }
+    ensures unchanged { Unchanged B.history B.committed B.terms B.honest B.clean B.may_find book.old
+        book.new }
     ensures answer { B.honest book.new
         → IfOk result (λ o. o ≡ draw_answer (B.history book.old) customer service country day
         (B.terms book.old).interval) }
@@ -70,7 +71,8 @@ fn decide_draw_many<B: Book>(
     day: u32,
 ) -> Result<Outcome, BookFault>
     ensures faults { CountsResult result (B.faults book.old) (B.faults book.new) }
-    ensures unchanged { Unchanged B.history B.committed B.terms B.honest book.old book.new }
+    ensures unchanged { Unchanged B.history B.committed B.terms B.honest B.clean B.may_find book.old
+        book.new }
     ensures answer { B.honest book.new
         → IfOk result (λ o. o ≡ draw_many_answer (B.history book.old) customer service country count
         day (B.terms book.old).interval) }
@@ -95,7 +97,8 @@ fn decide_draw_many<B: Book>(
 // identifier in common, so the one that is found decides.
 fn owns<B: Book>(book: &mut B, customer: u32, id: &Id) -> Result<bool, BookFault>
     ensures faults { CountsResult result (B.faults book.old) (B.faults book.new) }
-    ensures unchanged { Unchanged B.history B.committed B.terms B.honest book.old book.new }
+    ensures unchanged { Unchanged B.history B.committed B.terms B.honest B.clean B.may_find book.old
+        book.new }
     ensures answer { B.honest book.new
         → IfOk result (λ b. b ≡ list_any (is_own customer id.now)
         (ranges_of (B.history book.old))) }
@@ -109,7 +112,8 @@ fn owns<B: Book>(book: &mut B, customer: u32, id: &Id) -> Result<bool, BookFault
 
 fn decide_void<B: Book>(book: &mut B, customer: u32, id: &Id) -> Result<Outcome, BookFault>
     ensures faults { CountsResult result (B.faults book.old) (B.faults book.new) }
-    ensures unchanged { Unchanged B.history B.committed B.terms B.honest book.old book.new }
+    ensures unchanged { Unchanged B.history B.committed B.terms B.honest B.clean B.may_find book.old
+        book.new }
     ensures answer { B.honest book.new
         → IfOk result (λ o. o ≡ void_answer (B.history book.old) customer id.now) }
     ensures fits { IfOk result (λ o. IsTrue (fits (Body.Void id.now) o)) }
@@ -132,7 +136,8 @@ fn decide_void<B: Book>(book: &mut B, customer: u32, id: &Id) -> Result<Outcome,
 // Returns the status of an identifier that lies in a range.
 fn issue_status<B: Book>(book: &mut B, id: &Id) -> Result<Status, BookFault>
     ensures faults { CountsResult result (B.faults book.old) (B.faults book.new) }
-    ensures unchanged { Unchanged B.history B.committed B.terms B.honest book.old book.new }
+    ensures unchanged { Unchanged B.history B.committed B.terms B.honest B.clean B.may_find book.old
+        book.new }
     ensures answer { B.honest book.new
         → IfOk result (λ s. s ≡ status_of_issue (last_issue_of (B.history book.old) id.now)) }
 {
@@ -152,7 +157,8 @@ fn issue_status<B: Book>(book: &mut B, id: &Id) -> Result<Status, BookFault>
 // most the number of calls.
 fn next_number<B: Book>(book: &mut B) -> Result<u32, BookFault>
     ensures faults { CountsResult result (B.faults book.old) (B.faults book.new) }
-    ensures unchanged { Unchanged B.history B.committed B.terms B.honest book.old book.new }
+    ensures unchanged { Unchanged B.history B.committed B.terms B.honest B.clean B.may_find book.old
+        book.new }
     ensures answer { B.honest book.new
         → IfOk result (λ n. n ≡ length (ranges_of (B.history book.old)) + 1) }
 {
@@ -179,7 +185,8 @@ fn decide_grant<B: Book>(
     last: Serial,
 ) -> Result<Outcome, BookFault>
     ensures faults { CountsResult result (B.faults book.old) (B.faults book.new) }
-    ensures unchanged { Unchanged B.history B.committed B.terms B.honest book.old book.new }
+    ensures unchanged { Unchanged B.history B.committed B.terms B.honest B.clean B.may_find book.old
+        book.new }
     ensures answer { B.honest book.new
         → IfOk result (λ o. o ≡ grant_answer (B.history book.old) customer holder service country
         first last) }
@@ -208,7 +215,8 @@ fn decide_grant<B: Book>(
 // Returns the status of an identifier for the post, which may ask for one that lies in no range.
 fn known_status<B: Book>(book: &mut B, id: &Id) -> Result<Status, BookFault>
     ensures faults { CountsResult result (B.faults book.old) (B.faults book.new) }
-    ensures unchanged { Unchanged B.history B.committed B.terms B.honest book.old book.new }
+    ensures unchanged { Unchanged B.history B.committed B.terms B.honest B.clean B.may_find book.old
+        book.new }
     ensures answer { B.honest book.new
         → IfOk result (λ s. s ≡ status_of (B.history book.old) id.now) }
 {
@@ -222,7 +230,8 @@ fn known_status<B: Book>(book: &mut B, id: &Id) -> Result<Status, BookFault>
 
 fn decide_query<B: Book>(book: &mut B, customer: u32, id: &Id) -> Result<Outcome, BookFault>
     ensures faults { CountsResult result (B.faults book.old) (B.faults book.new) }
-    ensures unchanged { Unchanged B.history B.committed B.terms B.honest book.old book.new }
+    ensures unchanged { Unchanged B.history B.committed B.terms B.honest B.clean B.may_find book.old
+        book.new }
     ensures answer { B.honest book.new
         → IfOk result (λ o. o ≡ query_answer (B.history book.old) customer id.now) }
     ensures fits { IfOk result (λ o. IsTrue (fits (Body.Query id.now) o)) }
@@ -240,7 +249,8 @@ fn decide_query<B: Book>(book: &mut B, customer: u32, id: &Id) -> Result<Outcome
 
 fn decide_withdraw<B: Book>(book: &mut B, sender: u32, num: u32) -> Result<Outcome, BookFault>
     ensures faults { CountsResult result (B.faults book.old) (B.faults book.new) }
-    ensures unchanged { Unchanged B.history B.committed B.terms B.honest book.old book.new }
+    ensures unchanged { Unchanged B.history B.committed B.terms B.honest B.clean B.may_find book.old
+        book.new }
     ensures answer { B.honest book.new
         → IfOk result (λ o. o ≡ withdraw_answer (B.history book.old) sender num) }
     ensures fits { IfOk result (λ o. IsTrue (fits (Body.Withdraw num) o)) }
@@ -268,7 +278,8 @@ fn decide_withdraw<B: Book>(book: &mut B, sender: u32, num: u32) -> Result<Outco
 pub fn decide<B: Book>(book: &mut B, request: &Request, day: u32) -> Result<Outcome, BookFault>
     requires { B.honest book.old → day_of (B.history book.old) ≤ day }
     ensures faults { CountsResult result (B.faults book.old) (B.faults book.new) }
-    ensures unchanged { Unchanged B.history B.committed B.terms B.honest book.old book.new }
+    ensures unchanged { Unchanged B.history B.committed B.terms B.honest B.clean B.may_find book.old
+        book.new }
     ensures answer { B.honest book.new
         → IfOk result (λ o. o ≡ answer_of (B.history book.old) request.now day
         (B.terms book.old).interval) }

@@ -82,9 +82,15 @@ impl<B: Book> Book for TripBook<B> {
 
     ghost honest = { λ b. B.honest b.inner };
 
+    ghost clean = { λ b. B.clean b.inner };
+
+    ghost may_find = { λ b. B.may_find b.inner };
+
     ghost legal = { λ b h. B.legal b.inner h };
 
     ghost first = { λ b h. B.first b.inner h };
+
+    ghost found = { λ b h. B.found b.inner h };
 
     fn settings(&self) -> Settings {
         self.inner.settings()

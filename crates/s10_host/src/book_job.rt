@@ -137,7 +137,7 @@ fn run_on_book<B: GroupCommit, W: Write>(
         (new_trace, book) (link.trace, result.2) (W.contents out.old) (W.contents out.new) count
         result.0) }
     ensures reported { (report : Report) → work ≡ BookJob.Report report → (result.1 ≡ None)
-        × Unchanged B.history B.committed B.terms B.honest book result.2
+        × Unchanged B.history B.committed B.terms B.honest B.clean B.may_find book result.2
         × (B.honest result.2
         → IfOk result.0 (PrintsReport (B.faults book) (B.faults result.2) (W.contents out.old)
         (W.contents out.new)

@@ -57,7 +57,8 @@ pub fn write_report<B: Book, W: Write>(
     report: Report,
     out: &mut W,
 ) -> Result<JobStatus, WriteFault>
-    ensures unchanged { Unchanged B.history B.committed B.terms B.honest book.old book.new }
+    ensures unchanged { Unchanged B.history B.committed B.terms B.honest B.clean B.may_find book.old
+        book.new }
     ensures written { B.honest book.new
         → IfOk result (PrintsReport (B.faults book.old) (B.faults book.new) (W.contents out.old)
         (W.contents out.new)

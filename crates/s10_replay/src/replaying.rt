@@ -29,7 +29,8 @@ fn has_key_columns(row: &CallRow, arrival: u32, call: &Entry) -> bool
 
 // Returns whether no call of the book has the key of the call.
 fn is_new<B: Book>(book: &mut B, call: &Entry) -> Result<bool, BookFault>
-    ensures unchanged { Unchanged B.history B.committed B.terms B.honest book.old book.new }
+    ensures unchanged { Unchanged B.history B.committed B.terms B.honest B.clean B.may_find book.old
+        book.new }
     ensures answer { B.honest book.new
         → IfOk result (λ b. IsTrue b
         ↔ (find_entry (B.history book.old) call.now.request.customer call.now.request.number
@@ -42,7 +43,8 @@ fn is_new<B: Book>(book: &mut B, call: &Entry) -> Result<bool, BookFault>
 // Returns whether the limit is not reached, the day of the call is not before the book's, and its
 // key is new.
 fn may_follow<B: Book>(book: &mut B, call: &Entry) -> Result<bool, BookFault>
-    ensures unchanged { Unchanged B.history B.committed B.terms B.honest book.old book.new }
+    ensures unchanged { Unchanged B.history B.committed B.terms B.honest B.clean B.may_find book.old
+        book.new }
     ensures answer { B.honest book.new
         → IfOk result (λ b. IsTrue b ↔ ((length (B.history book.old) < (B.terms book.old).limit)
         × (day_of (B.history book.old) ≤ call.now.day)
@@ -58,7 +60,8 @@ fn may_follow<B: Book>(book: &mut B, call: &Entry) -> Result<bool, BookFault>
 
 // Returns the call of the row if the row is right after the book's calls. None if it is wrong.
 fn right_call<B: Book>(book: &mut B, row: &CallRow) -> Result<Option<Entry>, BookFault>
-    ensures unchanged { Unchanged B.history B.committed B.terms B.honest book.old book.new }
+    ensures unchanged { Unchanged B.history B.committed B.terms B.honest B.clean B.may_find book.old
+        book.new }
     ensures right { B.honest book.new
         → IfOk result (λ found. IfSome found (λ e. (e ≡ entry_of row.now) × IsCall e
         × IsRightRow (B.terms book.old) (B.history book.old) row.now)) }

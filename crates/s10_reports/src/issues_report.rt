@@ -26,7 +26,8 @@ use std::io::Write;
 /// - `Write` if the writer fails; part of a line may be written.
 pub fn write_issues<B: Book, W: Write>(book: &mut B, out: &mut W) -> Result<(), ReportFault>
     ensures faults { CountsReport result (B.faults book.old) (B.faults book.new) }
-    ensures unchanged { Unchanged B.history B.committed B.terms B.honest book.old book.new }
+    ensures unchanged { Unchanged B.history B.committed B.terms B.honest B.clean B.may_find book.old
+        book.new }
     ensures written { B.honest book.new
         → Reported (W.contents out.old) (W.contents out.new) (issues_report (B.history book.old))
         result }
@@ -50,7 +51,8 @@ fn write_call<B: Book, W: Write>(
     out: &mut W,
 ) -> Result<(), ReportFault>
     ensures faults { CountsReport result (B.faults book.old) (B.faults book.new) }
-    ensures unchanged { Unchanged B.history B.committed B.terms B.honest book.old book.new }
+    ensures unchanged { Unchanged B.history B.committed B.terms B.honest B.clean B.may_find book.old
+        book.new }
     ensures written { B.honest book.new
         → Reported (W.contents out.old) (W.contents out.new)
         (issue_lines (B.history book.old) (issues_at arrival entry.now)) result }

@@ -33,7 +33,8 @@ pub fn write_ranges<B: Book, W: Write>(
     out: &mut W,
 ) -> Result<(), ReportFault>
     ensures faults { CountsReport result (B.faults book.old) (B.faults book.new) }
-    ensures unchanged { Unchanged B.history B.committed B.terms B.honest book.old book.new }
+    ensures unchanged { Unchanged B.history B.committed B.terms B.honest B.clean B.may_find book.old
+        book.new }
     ensures written { B.honest book.new → Reported (W.contents out.old) (W.contents out.new)
         (ranges_report (B.history book.old) day (B.terms book.old).interval) result }
 {

@@ -12,6 +12,7 @@ invariant-loop-range g l =
     record {
       faults : g.B.Book.faults l.book ≡ g.B.Book.faults l.fn.book;
       unchanged : Unchanged g.B.Book.history g.B.Book.committed g.B.Book.terms g.B.Book.honest
+          g.B.Book.clean g.B.Book.may_find
           l.fn.book l.book;
       interval : g.B.Book.honest l.book → l.interval ≡ (g.B.Book.terms l.fn.book).interval;
       remaining : g.B.Book.honest l.book

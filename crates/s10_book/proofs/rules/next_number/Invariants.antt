@@ -9,6 +9,7 @@ invariant-loop-low g l =
     record {
       faults : g.B.Book.faults l.book ≡ g.B.Book.faults l.fn.book;
       unchanged : Unchanged g.B.Book.history g.B.Book.committed g.B.Book.terms g.B.Book.honest
+          g.B.Book.clean g.B.Book.may_find
           l.fn.book l.book;
       few : l.high ≤ MAX_LIMIT;
       ordered : l.low ≤ l.high;

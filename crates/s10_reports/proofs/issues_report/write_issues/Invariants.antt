@@ -11,6 +11,7 @@ invariant-loop-done g l =
     record {
       faults : g.B.Book.faults l.book ≡ g.B.Book.faults l.fn.book;
       unchanged : Unchanged g.B.Book.history g.B.Book.committed g.B.Book.terms g.B.Book.honest
+          g.B.Book.clean g.B.Book.may_find
           l.fn.book l.book;
       written : g.B.Book.honest l.book → Appends (g.W.Write.contents l.fn.out)
           (g.W.Write.contents l.out)
