@@ -111,15 +111,17 @@ answered_committed Honest IsCommitted old new to b (Faulted fault) turn is = is
 
 -- Batches of at most one datagram.
 module _ {B : Type 0} (faults : B → Faults) (honest : B → Type 0) (terms : B → Terms)
-    (history committed : B → List Entry) (day : ℕ) (old between : Trace × B) where
+    (history committed : B → List Entry) (clean : B → Type 0)
+    (may_find : B → Option (List Entry) → Type 0) (day : ℕ) (old between : Trace × B) where
   abbrev Handled : B → B → List ℕ → Answer → Type 0
-  Handled before after b answer = Handles faults honest terms history committed before after day b
+  Handled before after b answer = Handles faults honest terms history committed clean may_find
+      before after day b
       answer
 
   -- A batch in which nothing was received.
   unanswered : (ended : Result (Unit {0}) LinkFault) (batch : List Turn)
       → ReceivesBatch Handled 1 old between [] ended → batch ≡ turns_of_batch ended []
-      → ServesBatch faults honest terms history committed day 1 old between batch
+      → ServesBatch faults honest terms history committed clean may_find day 1 old between batch
   unanswered ended batch takes are = record {
     taken = [];
     between = between;
@@ -136,7 +138,8 @@ module _ {B : Type 0} (faults : B → Faults) (honest : B → Type 0) (terms : B
   }
 
   pub one_failed : (fault : LinkFault) (turn : Turn) → Takes Handled old between (Err fault)
-      → IsErrAnd turn (λ e. e ≡ fault) → ServesBatch faults honest terms history committed day 1 old
+      → IsErrAnd turn (λ e. e ≡ fault) → ServesBatch faults honest terms history committed clean
+          may_find day 1 old
       between (turn ∷ [])
   one_failed fault turn count_receive passed =
       unanswered (Err fault) (turn ∷ []) (failed Handled 1 old old [] taken_none between fault
@@ -144,7 +147,8 @@ module _ {B : Type 0} (faults : B → Faults) (honest : B → Type 0) (terms : B
       (ap (λ (t : Turn). t ∷ []) (same_error turn fault passed))
 
   pub one_quiet : (found : Option Exchange) → Takes Handled old between (Ok found) → found ≡ None
-      → ServesBatch faults honest terms history committed day 1 old between (Ok turns.Quiet ∷ [])
+      → ServesBatch faults honest terms history committed clean may_find day 1 old between (Ok
+          turns.Quiet ∷ [])
   one_quiet found count_receive is = unanswered (Ok tt) (Ok turns.Quiet ∷ [])
       (no_more Handled 1 old old [] taken_none between found (omega arith) count_receive is) refl
 
@@ -152,11 +156,11 @@ module _ {B : Type 0} (faults : B → Faults) (honest : B → Type 0) (terms : B
       (commit_result : Result (Unit {0}) BookFault) (turn : Turn)
       → Takes Handled old between (Ok found) → found ≡ Some taken
       → (is_reply taken.answer ≡ true
-      → Commits faults honest terms history committed between.1 new.1 commit_result)
+      → Commits faults honest terms history committed clean may_find between.1 new.1 commit_result)
       → (is_reply taken.answer ≡ false → new.1 ≡ between.1)
       → Answers (honest new.1) (AsksCommitted (committed new.1) (history new.1)) between.0 new.0
       commit_result taken.from taken.packet taken.answer turn
-      → ServesBatch faults honest terms history committed day 1 old new (turn ∷ [])
+      → ServesBatch faults honest terms history committed clean may_find day 1 old new (turn ∷ [])
   one_served new found taken commit_result turn count_receive is commits same answers = record {
     taken = taken ∷ [];
     between = between;
@@ -178,7 +182,8 @@ module _ {B : Type 0} (faults : B → Faults) (honest : B → Type 0) (terms : B
       → Takes Handled old between (Ok found) → found ≡ Some taken
       → (honest between.1 → committed between.1 ≡ history between.1)
       → Answers ⊤ (λ _. ⊤) between.0 trace (Ok tt) taken.from taken.packet taken.answer turn
-      → ServesBatch faults honest terms history committed day 1 old (trace, between.1) (turn ∷ [])
+      → ServesBatch faults honest terms history committed clean may_find day 1 old (trace,
+          between.1) (turn ∷ [])
   one_committed trace found taken turn count_receive is whole answers =
       one_served (trace, between.1) found taken (Ok tt) turn count_receive is
       (λ some. record {

@@ -44,7 +44,8 @@ owed_more before after ds es (Ok (turns.Faulted from fault)) grew among is = tt
 owed_more before after ds es (Ok (turns.Uncommitted from fault)) grew among is = tt
 owed_more before after ds es (Err fault) grew among is = tt
 
-all_more : (before after : List Entry) (ds es : List Dated) (ts : List Turn) → Grows before after
+pub all_more : (before after : List Entry) (ds es : List Dated) (ts : List Turn) → Grows before
+    after
     → ((d : Dated) → Contains ds d → Contains es d)
     → All (IsOwedReply before ds) ts → All (IsOwedReply after es) ts
 all_more before after ds es ts grew among all =
@@ -52,20 +53,24 @@ all_more before after ds es ts grew among all =
     (λ turn is. owed_more before after ds es turn grew among is) ts all
 
 module _ {B : Type 0} (faults : B → Faults) (honest : B → Type 0) (terms : B → Terms)
-    (history committed : B → List Entry) (given : Option ℕ) where
-  abbrev Handled : ℕ → B → B → List ℕ → Answer → Type 0
-  Handled day before after b answer = Handles faults honest terms history committed before after day
+    (history committed : B → List Entry) (clean : B → Type 0)
+    (may_find : B → Option (List Entry) → Type 0) (given : Option ℕ) where
+  abbrev pub Handled : ℕ → B → B → List ℕ → Answer → Type 0
+  Handled day before after b answer = Handles faults honest terms history committed clean may_find
+      before after day
       b answer
 
   -- A book that is honest after the datagrams was honest before them.
-  honest_taken : (day : ℕ) (old new : Trace × B) (ts : List Exchange)
+  pub honest_taken : (day : ℕ) (old new : Trace × B) (ts : List Exchange)
       → ReceivesAll (Handled day) old ts new → honest new.1 → honest old.1
   honest_taken day old _ _ taken_none h = h
   honest_taken day old new _ (taken_more {between = between} takes count_receive) h =
       honest_taken day old between _ takes (count_receive.1.was_honest h)
 
-  honest_answered : (between new : B) (flag : Bool) (commit_result : Result (Unit {0}) BookFault)
-      → (flag ≡ true → Commits faults honest terms history committed between new commit_result)
+  pub honest_answered : (between new : B) (flag : Bool) (commit_result : Result (Unit {0})
+      BookFault)
+      → (flag ≡ true → Commits faults honest terms history committed clean may_find between new
+          commit_result)
       → (flag ≡ false → new ≡ between)
       → honest new → honest between
   honest_answered between new false commit_result commits unasked h =
@@ -73,26 +78,27 @@ module _ {B : Type 0} (faults : B → Faults) (honest : B → Type 0) (terms : B
   honest_answered between new true commit_result commits unasked h =
       (commits refl).unchanged.was_honest h
 
-  honest_batch : (old new : Trace × B) (batch : List Turn) → IsBatch faults honest terms history
-      committed given old batch new → honest new.1 → honest old.1
+  pub honest_batch : (old new : Trace × B) (batch : List Turn) → IsBatch faults honest terms history
+      committed clean may_find given old batch new → honest new.1 → honest old.1
   honest_batch old new batch (day, is, most, it) h =
       let between = honest_answered it.between.1 new.1 (has_reply it.taken) it.answers.commit_result
       it.answers.commits it.answers.unasked h in
       honest_taken day old it.takes.handled it.taken it.takes.takes
       (subst honest it.takes.same between)
 
-  honest_batches : (old new : Trace × B) (batches : List (List Turn))
-      → BatchesLead (IsBatch faults honest terms history committed given) old batches new
+  pub honest_batches : (old new : Trace × B) (batches : List (List Turn))
+      → BatchesLead (IsBatch faults honest terms history committed clean may_find given) old batches
+          new
       → honest new.1 → honest old.1
   unfolding BatchesLead
   honest_batches old new [] same h = subst (λ (s : Trace × B). honest s.1) same h
   honest_batches old new (batch ∷ batches) (next, step, rest) h =
       honest_batch old next batch step (honest_batches next new batches rest h)
 
-  abbrev packets : ℕ → List Exchange → List Dated
+  abbrev pub packets : ℕ → List Exchange → List Dated
   packets day ts = map (λ (t : Exchange). (t.packet, day)) ts
 
-  abbrev answers_of : List Exchange → List Answer
+  abbrev pub answers_of : List Exchange → List Answer
   answers_of ts = map (λ (t : Exchange). t.answer) ts
 
   -- Lemmas about a book that began with this history, these terms and these committed calls.
@@ -107,7 +113,8 @@ module _ {B : Type 0} (faults : B → Faults) (honest : B → Type 0) (terms : B
     of_lists ds es ans bs now same alike upto = subst (λ (l : List Dated). Upto l bs now) (sym same)
         (subst (λ (l : List Answer). Upto ds l now) (sym alike) upto)
 
-    upto_same : (ds : List Dated) (ans : List Answer) (old new : B) → new ≡ old → Upto ds ans old
+    pub upto_same : (ds : List Dated) (ans : List Answer) (old new : B) → new ≡ old → Upto ds ans
+        old
         → Upto ds ans new
     upto_same ds ans old new same upto = subst (Upto ds ans) (sym same) upto
 
@@ -125,7 +132,7 @@ module _ {B : Type 0} (faults : B → Faults) (honest : B → Type 0) (terms : B
               (one.stays_committed h);
         }
 
-    upto_taken : (day : ℕ) (ds : List Dated) (ans : List Answer) (old new : Trace × B)
+    pub upto_taken : (day : ℕ) (ds : List Dated) (ans : List Answer) (old new : Trace × B)
         (ts : List Exchange) → ReceivesAll (Handled day) old ts new → honest new.1
         → Upto ds ans old.1
         → Upto (ds ++ packets day ts) (ans ++ answers_of ts) new.1
@@ -146,7 +153,8 @@ module _ {B : Type 0} (faults : B → Faults) (honest : B → Type 0) (terms : B
 
     upto_answered : (ds : List Dated) (ans : List Answer) (between new : B) (flag : Bool)
         (commit_result : Result (Unit {0}) BookFault)
-        → (flag ≡ true → Commits faults honest terms history committed between new commit_result)
+        → (flag ≡ true → Commits faults honest terms history committed clean may_find between new
+            commit_result)
         → (flag ≡ false → new ≡ between)
         → honest new → Upto ds ans between → Upto ds ans new
     upto_answered ds ans between new false commit_result commits unasked h upto =
@@ -162,8 +170,9 @@ module _ {B : Type 0} (faults : B → Faults) (honest : B → Type 0) (terms : B
               (unchanged.stays_committed h);
         }
 
-    upto_batch : (ds : List Dated) (ans : List Answer) (day most : ℕ) (old new : Trace × B)
-        (batch : List Turn) (it : ServesBatch faults honest terms history committed day most old new
+    pub upto_batch : (ds : List Dated) (ans : List Answer) (day most : ℕ) (old new : Trace × B)
+        (batch : List Turn) (it : ServesBatch faults honest terms history committed clean may_find
+            day most old new
         batch) → honest new.1 → Upto ds ans old.1
         → Upto (ds ++ packets day it.taken) (ans ++ answers_of it.taken) new.1
     upto_batch ds ans day most old new batch it h upto =
@@ -177,21 +186,26 @@ module _ {B : Type 0} (faults : B → Faults) (honest : B → Type 0) (terms : B
         (upto_same (ds ++ packets day it.taken) (ans ++ answers_of it.taken) it.takes.handled.1
         it.between.1 it.takes.same taken)
 
-    upto_batches : (ds : List Dated) (ans : List Answer) (old new : Trace × B)
+    pub upto_batches : (ds : List Dated) (ans : List Answer) (old new : Trace × B)
         (batches : List (List Turn))
-        (lead : BatchesLead (IsBatch faults honest terms history committed given) old batches new)
+        (lead : BatchesLead (IsBatch faults honest terms history committed clean may_find given) old
+            batches new)
         → honest new.1 → Upto ds ans old.1
-        → Upto (ds ++ deliveries_in faults honest terms history committed old new batches given
-        lead) (ans ++ answers_in faults honest terms history committed old new batches given
+        → Upto (ds ++ deliveries_in faults honest terms history committed clean may_find old new
+            batches given
+        lead) (ans ++ answers_in faults honest terms history committed clean may_find old new
+            batches given
         lead) new.1
     unfolding BatchesLead deliveries_in answers_in
     upto_batches ds ans old new [] same h upto =
         of_lists ds (ds ++ []) ans (ans ++ []) new.1 (append-nil ds) (append-nil ans)
         (subst (λ (s : Trace × B). Upto ds ans s.1) (sym same) upto)
     upto_batches ds ans old new (batch ∷ batches) (next, (day, is, most, it), rest) h upto =
-        let more = deliveries_in faults honest terms history committed next new batches given
+        let more = deliveries_in faults honest terms history committed clean may_find next new
+            batches given
         rest in
-        let told = answers_in faults honest terms history committed next new batches given rest in
+        let told = answers_in faults honest terms history committed clean may_find next new batches
+            given rest in
         of_lists ((ds ++ packets day it.taken) ++ more) (ds ++ (packets day it.taken ++ more))
         ((ans ++ answers_of it.taken) ++ told) (ans ++ (answers_of it.taken ++ told)) new.1
         (sym (append_assoc ds (packets day it.taken) more))
@@ -201,7 +215,7 @@ module _ {B : Type 0} (faults : B → Faults) (honest : B → Type 0) (terms : B
         h (upto_batch ds ans day most old next batch it (honest_batches next new batches rest h)
         upto))
 
-  here : (book : B) → Upto (history book) (terms book) (committed book) [] [] book
+  pub here : (book : B) → Upto (history book) (terms book) (committed book) [] [] book
   here book = record {
     same_terms = refl;
     served = Served-nil (history book) (terms book);
@@ -210,9 +224,11 @@ module _ {B : Type 0} (faults : B → Faults) (honest : B → Type 0) (terms : B
 
   -- Every reply that was sent is owed to a delivery by the calls that are committed at the end.
   owe : (old new : Trace × B) (batches : List (List Turn))
-      (lead : BatchesLead (IsBatch faults honest terms history committed given) old batches new)
+      (lead : BatchesLead (IsBatch faults honest terms history committed clean may_find given) old
+          batches new)
       → honest new.1
-      → All (IsOwedReply (committed new.1) (deliveries_in faults honest terms history committed old
+      → All (IsOwedReply (committed new.1) (deliveries_in faults honest terms history committed
+          clean may_find old
       new batches given lead)) (turns_in batches)
   unfolding BatchesLead deliveries_in
   owe old new [] same h = All-nil (IsOwedReply (committed new.1) [])
@@ -221,22 +237,26 @@ module _ {B : Type 0} (faults : B → Faults) (honest : B → Type 0) (terms : B
       let grew = (upto_batches (history next.1) (terms next.1) (committed next.1) [] [] next new
       batches rest h (here next.1)).stays_committed in
       let first = packets day it.taken in
-      let more = deliveries_in faults honest terms history committed next new batches given rest in
+      let more = deliveries_in faults honest terms history committed clean may_find next new batches
+          given rest in
       All-append (IsOwedReply (committed new.1) (first ++ more)) batch (turns_in batches)
       (all_more (committed next.1) (committed new.1) first (first ++ more) batch grew
       (λ d inside. Contains-append_left first more d inside)
-      (batch_owes faults honest terms history committed day most old next batch it then))
+      (batch_owes faults honest terms history committed clean may_find day most old next batch it
+          then))
       (all_more (committed new.1) (committed new.1) more (first ++ more) (turns_in batches)
       (grows_none (committed new.1)) (λ d inside. Contains-append_right first more d inside)
       (owe next new batches rest h))
 
   pub all_composed : ((book : B) → honest book → IsLegal (history book) (terms book))
       → (old new : Trace × B) (batches : List (List Turn))
-      (lead : BatchesLead (IsBatch faults honest terms history committed given) old batches new)
+      (lead : BatchesLead (IsBatch faults honest terms history committed clean may_find given) old
+          batches new)
       → honest new.1
-      → ServesAll faults honest terms history committed old.1 new.1
-      (deliveries_in faults honest terms history committed old new batches given lead)
-      (answers_in faults honest terms history committed old new batches given lead)
+      → ServesAll faults honest terms history committed clean may_find old.1 new.1
+      (deliveries_in faults honest terms history committed clean may_find old new batches given
+          lead)
+      (answers_in faults honest terms history committed clean may_find old new batches given lead)
       (turns_in batches)
   all_composed legal old new batches lead h =
       let upto = upto_batches (history old.1) (terms old.1) (committed old.1) [] [] old new batches
@@ -247,7 +267,8 @@ module _ {B : Type 0} (faults : B → Faults) (honest : B → Type 0) (terms : B
         served = upto.served;
         kept = KeepsPromises-legal (history new.1) (terms new.1) (legal new.1 h);
         stays_committed = upto.stays_committed;
-        stands = all_sent (committed new.1) (deliveries_in faults honest terms history committed old
+        stands = all_sent (committed new.1) (deliveries_in faults honest terms history committed
+            clean may_find old
             new batches given lead) (turns_in batches) (owe old new batches lead h);
         owed = owe old new batches lead h;
       }

@@ -15,4 +15,5 @@ pub mod Trying
 pub mod Near
 pub mod Standing
 pub mod Composing
+pub mod Stops
 pub mod ReceiveCount

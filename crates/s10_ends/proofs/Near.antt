@@ -39,7 +39,8 @@ one_more_on day h h1 h2 t t1 b answer before same one = record {
 }
 
 module _ {B F N : Type 0} (faults : B → Faults) (honest : B → Type 0) (terms : B → Terms)
-    (history committed : B → List Entry) (far : F → Trace) (near : N → Trace) where
+    (history committed : B → List Entry) (clean : B → Type 0)
+    (may_find : B → Option (List Entry) → Type 0) (far : F → Trace) (near : N → Trace) where
   -- The book before and after datagrams of that day.
   pub record LedOn (day : ℕ) (old new : B) : Type 0 where
     pub was_honest : honest new → honest old
@@ -58,7 +59,8 @@ module _ {B F N : Type 0} (faults : B → Faults) (honest : B → Type 0) (terms
   still day old between new led same = subst (λ (b : B). LedOn day old b) (sym same) led
 
   handled : (day : ℕ) (old between new : B) (b : List ℕ) (answer : Answer) → LedOn day old between
-      → Handles faults honest terms history committed between new day b answer → LedOn day old new
+      → Handles faults honest terms history committed clean may_find between new day b answer →
+          LedOn day old new
   handled day old between new b answer led handles = record {
     was_honest = λ h. led.was_honest (handles.was_honest h);
     same_terms = λ h. handles.same_terms h ∙ led.same_terms (handles.was_honest h);
@@ -71,7 +73,8 @@ module _ {B F N : Type 0} (faults : B → Faults) (honest : B → Type 0) (terms
   -- The book after a turn that handled one datagram on the day, or received none.
   turned : (day : ℕ) (book : B) (old between new : Trace × B)
       (taken : Result (Option Exchange) LinkFault) (turn : Turn) → LedOn day book old.1
-      → Takes (λ before after b answer. Handles faults honest terms history committed before after
+      → Takes (λ before after b answer. Handles faults honest terms history committed clean may_find
+          before after
       day b answer) old between taken → Tells between new taken turn → LedOn day book new.1
   turned day book old between new (Ok None) turn led takes tells =
       still day book old.1 new.1 led (ap (λ (s : Trace × B). s.1) tells.0 ∙ takes.1)
@@ -82,12 +85,13 @@ module _ {B F N : Type 0} (faults : B → Faults) (honest : B → Type 0) (terms
       still day book old.1 new.1 led (ap (λ (s : Trace × B). s.1) tells.0 ∙ takes.1)
 
   served : (day : ℕ) (book : B) (old new : Trace × B) (turn : Turn) → LedOn day book old.1
-      → ServesOne faults honest terms history committed day old new turn → LedOn day book new.1
+      → ServesOne faults honest terms history committed clean may_find day old new turn → LedOn day
+          book new.1
   served day book old new turn led one = turned day book old one.between new one.taken turn led
       one.takes one.tells
 
   abbrev Step : NearEnds B F N → NearEnds B F N → Type 0
-  Step = IsNearStep faults honest terms history committed far near
+  Step = IsNearStep faults honest terms history committed clean may_find far near
 
   pub day_stays : (old new : NearEnds B F N) → LeadsTo Step old new → new.day ≡ old.day
   day_stays old _ none = refl
@@ -98,7 +102,7 @@ module _ {B F N : Type 0} (faults : B → Faults) (honest : B → Type 0) (terms
   stepped day book old new is led step = elim step.call [
     | inl w ↦ served day book (far old.far, book_of old.server) (far new.far, book_of new.server)
         w.0 led
-        (subst (λ (d : ℕ). ServesOne faults honest terms history committed d (
+        (subst (λ (d : ℕ). ServesOne faults honest terms history committed clean may_find d (
           far old.far,
           book_of old.server,
         ) (far new.far, book_of new.server) w.0) is w.2)

@@ -1,7 +1,7 @@
 -- Lemmas about the number of receives of a batch.
 use Rattle.std.proofs.Common.{◌≡◌, ◌∙◌, refl, sym, ap, subst, ℕ, ◌+◌, ◌<◌, ◌≤◌, List, [], ◌∷◌, ◌++◌}
 use Rattle.std.proofs.Common.{length, length-append, Result, Ok, Err, cond, arith, inl, inr}
-use Rattle.std.specs.Prelude.{count_by}
+use Rattle.std.specs.Prelude.{count_by, Option}
 use Rattle.std.proofs.lemmas.List.Sums.{fold_push}
 use Rattle.s10_wire.specs.declared.frame.Frame.{Frame}
 use Rattle.s10_link.specs.declared.trace.Trace.{Trace}
@@ -145,10 +145,12 @@ counts_after (Ok _) [] = omega arith
 counts_after (Ok _) (turn ∷ ts) = omega arith
 
 pub batch_receives : {B : Type 0} (faults : B → Faults) (honest : B → Type 0) (terms : B → Terms)
-    (history committed : B → List Entry) (day most : ℕ) (old new : Trace × B) (ts : List Turn)
-    → ServesBatch faults honest terms history committed day most old new ts
+    (history committed : B → List Entry) (clean : B → Type 0)
+    (may_find : B → Option (List Entry) → Type 0) (day most : ℕ) (old new : Trace × B) (ts : List
+        Turn)
+    → ServesBatch faults honest terms history committed clean may_find day most old new ts
     → ReceivesAtMost most old.0 new.0 ts
-batch_receives faults honest terms history committed day most old new ts batch =
+batch_receives faults honest terms history committed clean may_find day most old new ts batch =
     let first = received_all _ old batch.takes.handled batch.taken batch.takes.takes in
     let last = ended_at most batch.taken batch.takes.handled.0 batch.between.0 batch.ended
     batch.takes.ends in

@@ -201,9 +201,11 @@ all_sent committed ds ts all = All-weaker (IsOwedReply committed ds) (IsSentComm
     (owed_sent committed ds) ts all
 
 module _ {B : Type 0} (faults : B → Faults) (honest : B → Type 0) (terms : B → Terms)
-    (history committed : B → List Entry) (day : ℕ) where
+    (history committed : B → List Entry) (clean : B → Type 0)
+    (may_find : B → Option (List Entry) → Type 0) (day : ℕ) where
   abbrev Handled : B → B → List ℕ → Answer → Type 0
-  Handled before after b answer = Handles faults honest terms history committed before after day b
+  Handled before after b answer = Handles faults honest terms history committed clean may_find
+      before after day b
       answer
 
   abbrev packets : List Exchange → List Dated
@@ -241,7 +243,8 @@ module _ {B : Type 0} (faults : B → Faults) (honest : B → Type 0) (terms : B
       }
 
   by_flag : (flag : Bool) (old new : B) (commit_result : Result (Unit {0}) BookFault)
-      → (flag ≡ true → Commits faults honest terms history committed old new commit_result)
+      → (flag ≡ true → Commits faults honest terms history committed clean may_find old new
+          commit_result)
       → (flag ≡ false → new ≡ old) → honest new → honest old × (history new ≡ history old)
   by_flag false old new commit_result commits same h =
       (subst honest (same refl) h, ap history (same refl))
@@ -264,7 +267,8 @@ module _ {B : Type 0} (faults : B → Faults) (honest : B → Type 0) (terms : B
   -- Every reply that a batch sent is owed to one of its datagrams, by the calls that are committed
   -- after it.
   pub batch_owes : (most : ℕ) (old new : Trace × B) (turns : List Turn)
-      (batch : ServesBatch faults honest terms history committed day most old new turns)
+      (batch : ServesBatch faults honest terms history committed clean may_find day most old new
+          turns)
       → honest new.1 → All (IsOwedReply (committed new.1) (packets batch.taken)) turns
   batch_owes most old new turns batch h =
       let before = by_flag (has_reply batch.taken) batch.between.1 new.1
@@ -286,7 +290,8 @@ module _ {B : Type 0} (faults : B → Faults) (honest : B → Type 0) (terms : B
 
   -- Every reply that a batch sent is one that the committed calls give.
   pub batch_stands : (most : ℕ) (old new : Trace × B) (turns : List Turn)
-      → ServesBatch faults honest terms history committed day most old new turns → honest new.1
+      → ServesBatch faults honest terms history committed clean may_find day most old new turns →
+          honest new.1
       → All (IsSentCommitted (committed new.1)) turns
   batch_stands most old new turns batch h =
       all_sent (committed new.1) (packets batch.taken) turns
@@ -294,6 +299,7 @@ module _ {B : Type 0} (faults : B → Faults) (honest : B → Type 0) (terms : B
 
   -- The same for a batch of one turn.
   pub turn_of_batch : (old new : Trace × B) (turn : Turn) → ServesBatch faults honest terms history
-      committed day 1 old new (turn ∷ []) → honest new.1 → IsSentCommitted (committed new.1) turn
+      committed clean may_find day 1 old new (turn ∷ []) → honest new.1 → IsSentCommitted (committed
+          new.1) turn
   turn_of_batch old new turn batch h = All-head (IsSentCommitted (committed new.1)) turn []
       (batch_stands 1 old new (turn ∷ []) batch h)

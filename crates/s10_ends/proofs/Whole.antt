@@ -26,7 +26,7 @@ use Rattle.s10_ends.specs.Served.AreAsked.{none, nothing, request}
 requests : List Entry → List Request
 requests h = map (λ e. e.request) h
 
-abbrev of_history : List Entry → List Request
+abbrev pub of_history : List Entry → List Request
 of_history h = map (λ e. e.request) h
 
 abbrev asking : List (Request × ℕ) → List Request
@@ -83,7 +83,7 @@ applied_once-append h ps qs n =
     (sym (applied_requests n h (first_arrivals (of_history h) ps)))
 
 -- Applying requests only adds to a history.
-grows : (n : ℕ) (h : List Entry) (ps : List (Request × ℕ)) → (more : List Entry)
+pub grows : (n : ℕ) (h : List Entry) (ps : List (Request × ℕ)) → (more : List Entry)
     × (fold (applied n) h ps ≡ h ++ more)
 grows n h [] = ([], sym (append-nil h))
 grows n h (p ∷ ps) = let rest = grows n (applied n h p) ps in (_, rest.1 ∙ append_assoc h _ rest.0)
@@ -130,7 +130,7 @@ AreAsked-append (nothing asks rest) more = nothing asks (AreAsked-append rest mo
 AreAsked-append (request asks rest) more = request asks (AreAsked-append rest more)
 
 -- Two lists applied one after the other.
-IsOnce-append : (h h1 h2 : List Entry) (ds es : List Dated) (n : ℕ) → IsOnce h ds n h1
+pub IsOnce-append : (h h1 h2 : List Entry) (ds es : List Dated) (n : ℕ) → IsOnce h ds n h1
     → IsOnce h1 es n h2 → IsOnce h (ds ++ es) n h2
 IsOnce-append h h1 h2 ds es n first second = (
   first.0 ++ second.0,

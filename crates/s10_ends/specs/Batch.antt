@@ -1,6 +1,6 @@
 -- A batch: datagrams that a server receives together, commits in one transaction, then replies to.
 use Rattle.std.specs.Prelude.{◌≡◌, ◌⊎◌, ℕ, ⊤, Bool, true, false, ◌+◌, ◌<◌, ◌≤◌, List, [], ◌∷◌}
-use Rattle.std.specs.Prelude.{◌++◌, length, count_by, Contains, Some, Result, Ok, Err}
+use Rattle.std.specs.Prelude.{◌++◌, length, count_by, Contains, Some, Result, Ok, Err, Option}
 use Rattle.std.specs.List.{list_any}
 use Rattle.s10_link.specs.declared.trace.Trace.{Trace}
 use Rattle.s10_link.specs.declared.link_fault.LinkFault.{LinkFault}
@@ -90,13 +90,15 @@ ReceivesAtMost most old new turns = new.calls + old.sends
     ≤ old.calls + most + new.sends + count_by is_failed_send turns
 
 module _ {B : Type 0} (faults : B → Faults) (honest : B → Type 0) (terms : B → Terms)
-    (history committed : B → List Entry) where
+    (history committed : B → List Entry) (clean : B → Type 0)
+    (may_find : B → Option (List Entry) → Type 0) where
   -- If some answer is a reply, the calls were committed, and only then were the replies sent.
   -- Otherwise the book is unchanged.
   pub record CommitsAndReplies (old new : Trace × B) (taken : List Exchange)
       (answered : List Turn) : Type 0 where
     pub commit_result : Result (Unit {0}) BookFault
-    pub commits : has_reply taken ≡ true → Commits faults honest terms history committed old.1
+    pub commits : has_reply taken ≡ true → Commits faults honest terms history committed clean
+        may_find old.1
         new.1 commit_result
     pub unasked : has_reply taken ≡ false → new.1 ≡ old.1
     pub answers : AnswersAll (honest new.1) (AsksCommitted (committed new.1) (history new.1))
@@ -109,7 +111,7 @@ module _ {B : Type 0} (faults : B → Faults) (honest : B → Type 0) (terms : B
     pub between : Trace × B
     pub ended : Result (Unit {0}) LinkFault
     pub takes : ReceivesBatch (λ before after b answer. Handles faults honest terms history
-        committed before after day b answer) most old between taken ended
+        committed clean may_find before after day b answer) most old between taken ended
     pub answered : List Turn
     pub answers : CommitsAndReplies between new taken answered
     pub are : turns ≡ turns_of_batch ended answered

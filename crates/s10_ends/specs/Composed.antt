@@ -10,6 +10,7 @@ use Rattle.s10_ends.specs.declared.answer.Answer.{Answer}
 use Rattle.s10_ends.specs.declared.exchange.Exchange.{Exchange}
 use Rattle.s10_ends.specs.Served.{Dated, Served}
 use Rattle.s10_ends.specs.Runs.{KeepsPromises}
+use Rattle.s10_ends.specs.Stop.{IsFoundAmong}
 use Rattle.s10_ends.specs.Turn.{Turn}
 use Rattle.s10_ends.specs.Batch.{ServesBatch, IsSentCommitted, IsOwedReply}
 
@@ -29,11 +30,12 @@ abbrev pub IsDay : Option ℕ → ℕ → Type 0
 IsDay given day = (d : ℕ) → given ≡ Some d → day ≡ d
 
 module _ {B : Type 0} (faults : B → Faults) (honest : B → Type 0) (terms : B → Terms)
-    (history committed : B → List Entry) where
+    (history committed : B → List Entry) (clean : B → Type 0)
+    (may_find : B → Option (List Entry) → Type 0) where
   -- One batch on such a day, from a link's trace and a server's book to those after it.
   abbrev pub IsBatch : Option ℕ → Trace × B → List Turn → Trace × B → Type 0
   IsBatch given old turns new = (day : ℕ) × IsDay given day × (most : ℕ) × ServesBatch faults honest
-      terms history committed day most old new turns
+      terms history committed clean may_find day most old new turns
 
   -- The datagrams that the batches received, in order, each with the day of its batch.
   unfoldable pub deliveries_in : (old new : Trace × B) (batches : List (List Turn))
@@ -64,3 +66,16 @@ module _ {B : Type 0} (faults : B → Faults) (honest : B → Type 0) (terms : B
     pub stays_committed : Grows (committed old) (committed new)
     pub stands : All (IsSentCommitted (committed new)) turns
     pub owed : All (IsOwedReply (committed new) deliveries) turns
+
+  -- Wherever the book was honest after some of the batches, an opening finds after a stop every call
+  -- whose reply they sent. It finds a beginning of what each distinct request of some of the
+  -- deliveries once, in order of first arrival, makes of the first history.
+  abbrev pub SurvivesStop : Option ℕ → Trace × B → Trace × B → Type 0
+  SurvivesStop given old new = (first rest : List (List Turn)) (between : Trace × B)
+      (before : BatchesLead (IsBatch given) old first between)
+      (after : BatchesLead (IsBatch given) between rest new)
+      → honest between.1 → clean new.1 → (found : Option (List Entry)) → may_find new.1 found
+      → IsFoundAmong (committed between.1) (history old.1) (terms old.1).interval
+      (deliveries_in old between first given before ++ deliveries_in between new rest given after)
+      found × ((calls : List Entry) → found ≡ Some calls
+      → All (IsSentCommitted calls) (turns_in first))

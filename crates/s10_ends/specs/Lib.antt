@@ -3,6 +3,7 @@ pub mod Server
 pub mod Served
 pub mod Respond
 pub mod Runs
+pub mod Stop
 pub mod Turn
 pub mod Batch
 pub mod NearLink

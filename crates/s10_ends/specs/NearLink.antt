@@ -1,5 +1,5 @@
 -- What the calls of a near link do to the link and to its server.
-use Rattle.std.specs.Prelude.{◌≡◌, ◌⊎◌, ℕ, List, All}
+use Rattle.std.specs.Prelude.{◌≡◌, ◌⊎◌, ℕ, List, All, Option}
 use Rattle.s10_wire.specs.declared.frame.Frame.{Frame}
 use Rattle.s10_link.specs.declared.peer.Peer.{Peer}
 use Rattle.s10_link.specs.declared.trace.Trace.{Trace}
@@ -21,12 +21,14 @@ pub record ServedOn (day : ℕ) (h : List Entry) (t : Terms) (h' : List Entry) :
   pub served : Served h t deliveries answers h'
 
 module _ {B F N : Type 0} (faults : B → Faults) (honest : B → Type 0) (terms : B → Terms)
-    (history committed : B → List Entry) (far : F → Trace) (near : N → Trace) where
+    (history committed : B → List Entry) (clean : B → Type 0)
+    (may_find : B → Option (List Entry) → Type 0) (far : F → Trace) (near : N → Trace) where
   -- A receive: the server first had one turn on the far end, on the day.
   abbrev pub IsNearReceive : NearEnds B F N → NearEnds B F N → Type 0
   IsNearReceive old new =
       (turn : Turn) × (came : ReceiveResult)
-      × ServesOne faults honest terms history committed old.day (far old.far, book_of old.server) (
+      × ServesOne faults honest terms history committed clean may_find old.day (far old.far, book_of
+          old.server) (
         far new.far,
         book_of new.server,
       ) turn

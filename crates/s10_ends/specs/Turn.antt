@@ -25,6 +25,7 @@ use Rattle.s10_ends.specs.declared.exchange.Exchange.{Exchange}
 use Rattle.s10_ends.specs.declared.server_turn.ServerTurn.{ServerTurn}
 use Rattle.s10_ends.specs.declared.server_turn.ServerTurn.TheVariants as turns
 use Rattle.s10_ends.specs.Served.{AskNothing, CountsAnswer, UnlessReply, Served}
+use Rattle.s10_ends.specs.Stop.{StopsAfter}
 
 -- The result of a datagram, or of a receive that got none.
 abbrev pub Turn : Type 0
@@ -32,7 +33,9 @@ Turn = Result ServerTurn LinkFault
 
 -- What handling bytes on a day does to the server's book, with its answer.
 pub record Handles {B : Type 0} (faults : B → Faults) (honest : B → Type 0) (terms : B → Terms)
-    (history committed : B → List Entry) (old new : B) (day : ℕ) (b : List ℕ) (answer : Answer) :
+    (history committed : B → List Entry) (clean : B → Type 0)
+    (may_find : B → Option (List Entry) → Type 0) (old new : B) (day : ℕ) (b : List ℕ) (answer :
+        Answer) :
     Type 0 where
   pub counts : CountsAnswer answer (faults old) (faults new)
   pub dropped : (fault : WireFault) → (answer ≡ Dropped fault)
@@ -44,13 +47,16 @@ pub record Handles {B : Type 0} (faults : B → Faults) (honest : B → Type 0) 
       (history new)
   pub unchanged : honest new → UnlessReply answer (history new ≡ history old)
   pub stays_committed : honest new → Grows (committed old) (committed new)
+  pub stop : StopsAfter terms history committed honest clean may_find old new ((b, day) ∷ [])
 
 -- What a commit does to the server's book, by its result.
 pub record Commits {B : Type 0} (faults : B → Faults) (honest : B → Type 0) (terms : B → Terms)
-    (history committed : B → List Entry) (old new : B) (result : Result (Unit {0}) BookFault) :
+    (history committed : B → List Entry) (clean : B → Type 0)
+    (may_find : B → Option (List Entry) → Type 0) (old new : B) (result : Result (Unit {0})
+        BookFault) :
     Type 0 where
   pub counts : CountsResult result (faults old) (faults new)
-  pub unchanged : Unchanged history committed terms honest old new
+  pub unchanged : Unchanged history committed terms honest clean may_find old new
   pub done : honest new → OnOk result (committed new ≡ history new)
   pub left : honest new → OnErr result (committed new ≡ committed old)
 
@@ -119,10 +125,12 @@ Tells between new (Err fault) turn = (new ≡ between) × (turn ≡ Err fault)
 
 -- One receive, the handling of the datagram on the day, and at most one send, without a commit.
 pub record ServesOne {B : Type 0} (faults : B → Faults) (honest : B → Type 0) (terms : B → Terms)
-    (history committed : B → List Entry) (day : ℕ) (old new : Trace × B) (turn : Turn) :
+    (history committed : B → List Entry) (clean : B → Type 0)
+    (may_find : B → Option (List Entry) → Type 0) (day : ℕ) (old new : Trace × B) (turn : Turn) :
     Type 0 where
   pub between : Trace × B
   pub taken : Result (Option Exchange) LinkFault
-  pub takes : Takes (λ before after b answer. Handles faults honest terms history committed before
+  pub takes : Takes (λ before after b answer. Handles faults honest terms history committed clean
+      may_find before
       after day b answer) old between taken
   pub tells : Tells between new taken turn

@@ -37,7 +37,7 @@ pub fn serve_batch<B: GroupCommit, L: Link>(
 ) -> Result<Vec<Turn>, AllocError>
     requires { 1 ≤ most }
     ensures served { IfOk result (λ turns. ServesBatch B.faults B.honest B.terms B.history
-        B.committed day most
+        B.committed B.clean B.may_find day most
         (L.trace_of link.old, book_of server.old) (L.trace_of link.new, book_of server.new)
         turns.items) }
     ensures stands { B.honest (book_of server.new)
@@ -67,7 +67,8 @@ fn commit_and_reply<B: GroupCommit, L: Link>(
 )
     requires none { turns.old.items ≡ [] }
     requires room { length taken.now ≤ vec_capacity turns.old }
-    ensures answered { CommitsAndReplies B.faults B.honest B.terms B.history B.committed
+    ensures answered { CommitsAndReplies B.faults B.honest B.terms B.history B.committed B.clean
+        B.may_find
         (L.trace_of link.old, book_of server.old) (L.trace_of link.new, book_of server.new)
         taken.now turns.new.items }
     ensures many { length turns.new.items ≡ length taken.now }

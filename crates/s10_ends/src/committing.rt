@@ -13,6 +13,7 @@ pub(crate) fn commit_if<B: GroupCommit>(
     wanted: bool,
 ) -> Result<(), BookFault>
     ensures commits { wanted ≡ true → Commits B.faults B.honest B.terms B.history B.committed
+        B.clean B.may_find
         (book_of server.old) (book_of server.new) result }
     ensures unasked { wanted ≡ false → book_of server.new ≡ book_of server.old }
 {

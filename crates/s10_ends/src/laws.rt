@@ -4,7 +4,7 @@ ghost use Rattle.std.specs.Prelude.{ℕ, List, Option};
 ghost use Rattle.s10_link.specs.declared.trace.Trace.{Trace};
 ghost use Rattle.s10_ends.specs.Turn.{Turn};
 ghost use Rattle.s10_ends.specs.Composed.{BatchesLead, turns_in, IsBatch, deliveries_in};
-ghost use Rattle.s10_ends.specs.Composed.{answers_in, ServesAll};
+ghost use Rattle.s10_ends.specs.Composed.{answers_in, ServesAll, SurvivesStop};
 
 use s10_book::Book;
 
@@ -14,11 +14,24 @@ use s10_book::Book;
 /// The calls that are committed at the end give every reply that was sent in any of the batches.
 pub fn batches_compose<B: Book>()
     ensures { (given : Option ℕ) (old new : Trace × B) (batches : List (List Turn))
-        (lead : BatchesLead (IsBatch B.faults B.honest B.terms B.history B.committed given) old
+        (lead : BatchesLead (IsBatch B.faults B.honest B.terms B.history B.committed B.clean
+            B.may_find given) old
         batches new)
-        → B.honest new.1 → ServesAll B.faults B.honest B.terms B.history B.committed old.1 new.1
-        (deliveries_in B.faults B.honest B.terms B.history B.committed old new batches given
+        → B.honest new.1 → ServesAll B.faults B.honest B.terms B.history B.committed B.clean
+            B.may_find old.1 new.1
+        (deliveries_in B.faults B.honest B.terms B.history B.committed B.clean B.may_find old new
+            batches given
         lead)
-        (answers_in B.faults B.honest B.terms B.history B.committed old new batches given lead)
+        (answers_in B.faults B.honest B.terms B.history B.committed B.clean B.may_find old new
+            batches given lead)
         (turns_in batches) }
+{}
+
+/// States what an opening finds if the server is stopped, at any moment, between batches or in one.
+///
+/// It finds every call whose reply was sent. What it finds is a beginning of what some of the
+/// requests that arrived give. The store must still be clean.
+pub fn batches_survive_stops<B: Book>()
+    ensures { (given : Option ℕ) (old new : Trace × B) → SurvivesStop B.faults B.honest B.terms
+        B.history B.committed B.clean B.may_find given old new }
 {}

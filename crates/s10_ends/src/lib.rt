@@ -29,7 +29,7 @@ pub use calls::call;
 pub use client::Client;
 pub use delivery::Delivery;
 pub use exchange::Exchange;
-pub use laws::batches_compose;
+pub use laws::{batches_compose, batches_survive_stops};
 pub use near_link::NearLink;
 pub use received::Received;
 pub use server::Server;

@@ -40,7 +40,8 @@ impl<B: Book, F, N> Model for NearLink<B, F, N> {
 // Serves at most one datagram at the far end, and drops the result.
 fn serve_far<B: Book, F: Link>(server: &mut Server<B>, far: &mut F, day: u32)
     requires { B.durable }
-    ensures turn { (turn : Turn) × ServesOne B.faults B.honest B.terms B.history B.committed day
+    ensures turn { (turn : Turn) × ServesOne B.faults B.honest B.terms B.history B.committed B.clean
+        B.may_find day
         (F.trace_of far.old, book_of server.old) (F.trace_of far.new, book_of server.new) turn }
     ensures whole { StaysWhole B.honest B.history B.committed (book_of server.old)
         (book_of server.new) }
@@ -54,7 +55,8 @@ impl<B: Book, F: Link, N: Link> Link for NearLink<B, F, N> {
 
     ghost trace_of = { λ link. N.trace_of link.near };
 
-    ghost step = { IsNearStep B.faults B.honest B.terms B.history B.committed F.trace_of
+    ghost step = { IsNearStep B.faults B.honest B.terms B.history B.committed B.clean B.may_find
+        F.trace_of
         N.trace_of };
 
     fn receive(&mut self) -> Result<Option<(Peer, Packet)>, LinkFault>
@@ -62,6 +64,7 @@ impl<B: Book, F: Link, N: Link> Link for NearLink<B, F, N> {
 
         // The server serves at most one datagram at the far end.
         ensures turn { (turn : Turn) × ServesOne B.faults B.honest B.terms B.history B.committed
+            B.clean B.may_find
             self.old.day
             (F.trace_of self.old.far, book_of self.old.server) (
               F.trace_of self.new.far,
@@ -70,7 +73,8 @@ impl<B: Book, F: Link, N: Link> Link for NearLink<B, F, N> {
         ensures whole { StaysWhole B.honest B.history B.committed (book_of self.old.server)
             (book_of self.new.server) }
         ensures day { self.new.day ≡ self.old.day }
-        ensures step { IsNearStep B.faults B.honest B.terms B.history B.committed F.trace_of
+        ensures step { IsNearStep B.faults B.honest B.terms B.history B.committed B.clean B.may_find
+            F.trace_of
             N.trace_of self.old self.new }
     {
         serve_far(&mut self.server, &mut self.far, self.day);
@@ -82,6 +86,7 @@ impl<B: Book, F: Link, N: Link> Link for NearLink<B, F, N> {
 
         // The server serves at most one datagram at the far end.
         ensures turn { (turn : Turn) × ServesOne B.faults B.honest B.terms B.history B.committed
+            B.clean B.may_find
             self.old.day
             (F.trace_of self.old.far, book_of self.old.server) (
               F.trace_of self.new.far,
@@ -90,7 +95,8 @@ impl<B: Book, F: Link, N: Link> Link for NearLink<B, F, N> {
         ensures whole { StaysWhole B.honest B.history B.committed (book_of self.old.server)
             (book_of self.new.server) }
         ensures day { self.new.day ≡ self.old.day }
-        ensures step { IsNearStep B.faults B.honest B.terms B.history B.committed F.trace_of
+        ensures step { IsNearStep B.faults B.honest B.terms B.history B.committed B.clean B.may_find
+            F.trace_of
             N.trace_of self.old self.new }
     {
         serve_far(&mut self.server, &mut self.far, self.day);
@@ -101,7 +107,8 @@ impl<B: Book, F: Link, N: Link> Link for NearLink<B, F, N> {
         ensures trace { Sends (N.trace_of self.old.near) (N.trace_of self.new.near) (to, frame.now)
             result }
         ensures same { self.new ≡ record self.old { near = self.new.near } }
-        ensures step { IsNearStep B.faults B.honest B.terms B.history B.committed F.trace_of
+        ensures step { IsNearStep B.faults B.honest B.terms B.history B.committed B.clean B.may_find
+            F.trace_of
             N.trace_of self.old self.new }
     {
         self.near.send(to, frame)

@@ -19,7 +19,7 @@ pub(crate) fn take<B: Book, L: Link>(
     day: u32,
 ) -> Result<Option<Exchange>, LinkFault>
     ensures takes { Takes (λ before after b answer. Handles B.faults B.honest B.terms B.history
-        B.committed before after day b answer)
+        B.committed B.clean B.may_find before after day b answer)
         (L.trace_of link.old, book_of server.old) (L.trace_of link.new, book_of server.new) result }
     ensures whole { B.durable → B.honest (book_of server.new) → B.committed (book_of server.old)
         ≡ B.history (book_of server.old) → B.committed (book_of server.new)
@@ -43,7 +43,7 @@ fn try_handle_next<B: Book, L: Link>(
     day: u32,
 ) -> Result<Option<Exchange>, LinkFault>
     ensures { Takes (λ before after b answer. Handles B.faults B.honest B.terms B.history
-        B.committed before after day b answer)
+        B.committed B.clean B.may_find before after day b answer)
         (L.trace_of link.old, book_of server.old) (L.trace_of link.new, book_of server.new) result }
 {
     let Some((from, packet)) = link.try_receive()? else {
@@ -58,7 +58,8 @@ fn try_handle_next<B: Book, L: Link>(
 }
 
 fn handle_packet<B: Book>(server: &mut Server<B>, packet: Packet, day: u32) -> Answer
-    ensures handles { Handles B.faults B.honest B.terms B.history B.committed (book_of server.old)
+    ensures handles { Handles B.faults B.honest B.terms B.history B.committed B.clean B.may_find
+        (book_of server.old)
         (book_of server.new) day packet result }
     ensures whole { B.durable → B.honest (book_of server.new) → B.committed (book_of server.old)
         ≡ B.history (book_of server.old) → B.committed (book_of server.new)
@@ -80,7 +81,7 @@ pub(crate) fn receive_batch<B: Book, L: Link>(
     requires room { most ≤ vec_capacity taken.old }
     ensures few { length taken.new.items ≤ most }
     ensures taken { ReceivesBatch (λ before after b answer. Handles B.faults B.honest B.terms
-        B.history B.committed before after day b answer) most
+        B.history B.committed B.clean B.may_find before after day b answer) most
         (L.trace_of link.old, book_of server.old) (L.trace_of link.new, book_of server.new)
         taken.new.items result }
 {

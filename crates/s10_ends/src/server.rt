@@ -3,7 +3,7 @@
 ghost use Rattle.std.specs.Prelude.{◌≡◌, ◌∷◌, [], IfOk, OnErr, IsTrue, Ok, Err, None};
 ghost use Rattle.s10_wire.specs.Kind.{fits};
 ghost use Rattle.s10_history.specs.History.{find_entry};
-ghost use Rattle.s10_book.specs.Book.{Grows};
+ghost use Rattle.s10_book.specs.Book.{Grows, FindsAfter};
 ghost use Rattle.s10_book.specs.Once.{applied_once};
 ghost use Rattle.s10_ends.specs.Served.{GivesOutcome, IsFullFor};
 ghost use Rattle.s10_ends.specs.Respond.{CountsFull};
@@ -35,6 +35,9 @@ fn respond<B: Book>(book: &mut B, request: &Request, day: u32) -> Result<Outcome
         → Grows (B.committed book.old) (B.committed book.new) }
     ensures committed { B.durable → B.honest book.new → B.committed book.old ≡ B.history book.old
         → B.committed book.new ≡ B.history book.new }
+    ensures stop { FindsAfter B.committed B.honest B.clean B.may_find book.old book.new
+        (applied_once (B.history book.old) ((request.now, day) ∷ [])
+        (B.terms book.old).interval) }
 {
     if let Some(entry) = book.find(request.customer, request.number)? {
         return Ok(if same_request(&entry.request, request) {
@@ -68,6 +71,9 @@ fn execute<B: Book>(book: &mut B, request: &Request, day: u32) -> Result<Outcome
         → Grows (B.committed book.old) (B.committed book.new) }
     ensures committed { B.durable → B.honest book.new → B.committed book.old ≡ B.history book.old
         → B.committed book.new ≡ B.history book.new }
+    ensures stop { FindsAfter B.committed B.honest B.clean B.may_find book.old book.new
+        (applied_once (B.history book.old) ((request.now, day) ∷ [])
+        (B.terms book.old).interval) }
 {
     if book.settings().limit() <= book.len() {
         return Err(BookFault::Full);
@@ -98,6 +104,7 @@ impl<B: Book> Server<B> {
     ghost use Rattle.s10_ends.specs.Server.{book_of};
     ghost use Rattle.s10_ends.specs.Served.{AskNothing, Served, UnlessReply, CountsAnswer};
     ghost use Rattle.s10_ends.specs.Runs.{dated, CountsAll, KeepsPromises, IsIssued};
+    ghost use Rattle.s10_ends.specs.Stop.{StopsAfter};
 
     /// Creates a server that continues the history of a book.
     pub fn new(book: B) -> Server<B>
@@ -157,6 +164,10 @@ impl<B: Book> Server<B> {
         ensures committed { B.durable → B.honest (book_of self.new) → B.committed (book_of self.old)
             ≡ B.history (book_of self.old) → B.committed (book_of self.new)
             ≡ B.history (book_of self.new) }
+
+        // After a stop an opening finds the committed calls, and perhaps the one of this delivery.
+        ensures stop { StopsAfter B.terms B.history B.committed B.honest B.clean B.may_find
+            (book_of self.old) (book_of self.new) ((bytes.now, day) ∷ []) }
     {
         let request = match decode_request(bytes) {
             Ok(request) => request,
@@ -212,6 +223,10 @@ impl<B: Book> Server<B> {
             ≡ B.history (book_of self.old) → B.committed (book_of self.new)
             ≡ B.history (book_of self.new) }
 
+        // After a stop an opening finds the committed calls, and perhaps more of the deliveries.
+        ensures stop { StopsAfter B.terms B.history B.committed B.honest B.clean B.may_find
+            (book_of self.old) (book_of self.new) (map dated deliveries.now) }
+
         // If the answers cannot be allocated, the book is unchanged.
         ensures refused { OnErr result (book_of self.new ≡ book_of self.old) }
     {
@@ -238,7 +253,8 @@ impl<B: GroupCommit> Server<B> {
     ///
     /// `Memory` or `Store` if the commit of the book failed with that fault.
     pub fn commit(&mut self) -> Result<(), BookFault>
-        ensures { Commits B.faults B.honest B.terms B.history B.committed (book_of self.old)
+        ensures { Commits B.faults B.honest B.terms B.history B.committed B.clean B.may_find
+            (book_of self.old)
             (book_of self.new) result }
     {
         self.book.commit()

@@ -27,12 +27,12 @@ use s10_link::Link;
 ///   and its call is kept.
 pub fn serve_one<B: Book, L: Link>(server: &mut Server<B>, link: &mut L, day: u32) -> Turn
     requires { B.durable }
-    ensures turn { ServesOne B.faults B.honest B.terms B.history B.committed day
+    ensures turn { ServesOne B.faults B.honest B.terms B.history B.committed B.clean B.may_find day
         (L.trace_of link.old, book_of server.old) (L.trace_of link.new, book_of server.new)
         result }
     ensures served { (B.honest (book_of server.new) → B.committed (book_of server.old)
         ≡ B.history (book_of server.old)) → ServesBatch B.faults B.honest B.terms B.history
-        B.committed day 1
+        B.committed B.clean B.may_find day 1
         (L.trace_of link.old, book_of server.old) (L.trace_of link.new, book_of server.new)
         (result ∷ []) }
     ensures whole { B.honest (book_of server.new) → B.committed (book_of server.old)
@@ -62,7 +62,8 @@ pub fn serve_batch_of_one<B: GroupCommit, L: Link>(
     link: &mut L,
     day: u32,
 ) -> Turn
-    ensures served { ServesBatch B.faults B.honest B.terms B.history B.committed day 1
+    ensures served { ServesBatch B.faults B.honest B.terms B.history B.committed B.clean B.may_find
+        day 1
         (L.trace_of link.old, book_of server.old) (L.trace_of link.new, book_of server.new)
         (result ∷ []) }
     ensures stands { B.honest (book_of server.new)

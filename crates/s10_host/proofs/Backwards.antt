@@ -13,16 +13,17 @@ use Rattle.s10_ends.specs.Batch.ReceivesAll.{none, more}
 use Rattle.s10_ends.specs.Composed.{IsBatch, BatchesLead}
 
 module _ {B : Type 0} (faults : B → Faults) (honest : B → Type 0) (terms : B → Terms)
-    (history committed : B → List Entry) (given : Option ℕ) where
+    (history committed : B → List Entry) (clean : B → Type 0)
+    (may_find : B → Option (List Entry) → Type 0) (given : Option ℕ) where
   before_taking : (day : ℕ) (old new : Trace × B) (taken : List Exchange)
-      → ReceivesAll (λ before after b answer. Handles faults honest terms history committed before
+      → ReceivesAll (λ before after b answer. Handles faults honest terms history committed clean may_find before
       after day b answer) old taken new → honest new.1 → honest old.1
   before_taking day old _ _ none kept = kept
   before_taking day old new _ (more {between = between} takes took) kept =
       before_taking day old between _ takes (took.1.was_honest kept)
 
   before_commit : (between new : B) (flag : Bool) (commit_result : Result (Unit {0}) BookFault)
-      → (flag ≡ true → Commits faults honest terms history committed between new commit_result)
+      → (flag ≡ true → Commits faults honest terms history committed clean may_find between new commit_result)
       → (flag ≡ false → new ≡ between) → honest new → honest between
   before_commit between new false commit_result commits unasked kept =
       subst honest (unasked refl) kept
@@ -30,7 +31,7 @@ module _ {B : Type 0} (faults : B → Faults) (honest : B → Type 0) (terms : B
       (commits refl).unchanged.was_honest kept
 
   before_batch : (old new : Trace × B) (batch : List Turn) → IsBatch faults honest terms history
-      committed given old batch new → honest new.1 → honest old.1
+      committed clean may_find given old batch new → honest new.1 → honest old.1
   before_batch old new batch (day, is, most, it) kept =
       let between = before_commit it.between.1 new.1 (has_reply it.taken) it.answers.commit_result
       it.answers.commits it.answers.unasked kept in
@@ -38,7 +39,7 @@ module _ {B : Type 0} (faults : B → Faults) (honest : B → Type 0) (terms : B
       (subst honest it.takes.same between)
 
   pub before_batches : (old new : Trace × B) (batches : List (List Turn))
-      → BatchesLead (IsBatch faults honest terms history committed given) old batches new
+      → BatchesLead (IsBatch faults honest terms history committed clean may_find given) old batches new
       → honest new.1 → honest old.1
   unfolding BatchesLead
   before_batches old new [] same kept = subst (λ (s : Trace × B). honest s.1) same kept

@@ -251,7 +251,7 @@ module _ (S : RattleType) (first : Ghosts S.Denot) where
       → IsHonest over_files opened
   was_honest day count old new opened after result link turns =
       before_batches (λ (b : FileLedger S first). b.faults) (IsHonest over_files) (λ b. b.terms)
-      (history_of over_files) (committed_of over_files) day
+      (history_of over_files) (committed_of over_files) (IsCleanLedger over_files) (MayFind over_files) day
       (new_trace, opened) (link.trace, after) turns.serves.batches turns.serves.lead
 
   -- Which calls the files of a served ledger hold.

@@ -36,4 +36,4 @@ module _ {S : Type 0} (g : Ghosts S) where
       → Result JobStatus WriteFault → BoundLink → Type 0
   Turns day count opened served old new result link =
       ServesTurns (λ (b : Ledger S). b.faults) (IsHonest g) (λ b. b.terms) (history_of g)
-      (committed_of g) day (new_trace, opened) (link.trace, served) old new count result
+      (committed_of g) (IsCleanLedger g) (MayFind g) day (new_trace, opened) (link.trace, served) old new count result

@@ -91,7 +91,7 @@ fn loop_over<B: Book, W: Write>(
         × (book_of begun.server ≡ book)
         × (ended : NearEnds B BoundLink BoundLink) × (result.1 ≡ book_of ended.server)
         × (result.2 ≡ ended.far) × (result.3 ≡ ended.near)
-        × LeadsTo (IsNearStep B.faults B.honest B.terms B.history B.committed
+        × LeadsTo (IsNearStep B.faults B.honest B.terms B.history B.committed B.clean B.may_find
         (λ (l : BoundLink). l.trace) (λ (l : BoundLink). l.trace)) begun ended
         × (to : Peer) × IfOk result.0 (λ status. Prints (W.contents out.old) (W.contents out.new)
         (AreMadeInTurn to loop_calls near.trace result.3.trace status)) }

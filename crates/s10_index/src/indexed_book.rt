@@ -1,6 +1,6 @@
 //! The book in memory over an index.
 
-ghost use Rattle.std.specs.Prelude.{◌≡◌, ◌∷◌, ◌++◌, [], ⊤, OnOk, OnErr, IfOk, IfErr, IfSome};
+ghost use Rattle.std.specs.Prelude.{◌≡◌, ◌∷◌, ◌++◌, [], ⊤, OnOk, OnErr, IfOk, IfErr, IfSome, Some};
 ghost use Rattle.std.specs.Prelude.{IsTrue, Contains, find, ◌==◌, ◌<◌, ◌≤◌, length, count_by};
 ghost use Rattle.s10_wire.specs.Kind.{fits};
 ghost use Rattle.s10_history.specs.History.{ranges_of, find_entry, entry_at, is_closed};
@@ -124,9 +124,15 @@ impl Book for IndexedBook {
 
     ghost honest = { λ b. ⊤ };
 
+    ghost clean = { λ b. ⊤ };
+
+    ghost may_find = { λ b found. found ≡ Some b.index.entries.items };
+
     ghost legal = { λ b h. b.legal };
 
     ghost first = { λ b h. ([], sym (append-nil b.index.entries.items)) };
+
+    ghost found = { λ b h found may. may };
 
     fn settings(&self) -> Settings {
         self.settings

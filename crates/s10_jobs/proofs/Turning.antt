@@ -155,15 +155,16 @@ served_to_no_day IsStep old new held before now done count (Err fault) served fe
 
 -- Batches one after another give what one run gives.
 pub as_one : {B : Type 0} (faults : B → Faults) (honest : B → Type 0) (terms : B → Terms)
-    (history committed : B → List Entry)
+    (history committed : B → List Entry) (clean : B → Type 0)
+    (may_find : B → Option (List Entry) → Type 0)
     → ((book : B) → honest book → IsLegal (history book) (terms book))
     → (given : Option ℕ) (old new : Trace × B) (held now : Option (List ℕ)) (count : ℕ)
     (result : Result JobStatus WriteFault)
-    → Serves (IsBatch faults honest terms history committed given) old new held now count result
-    → ServesTurns faults honest terms history committed given old new held now count result
-as_one faults honest terms history committed legal given old new held now count result serves =
+    → Serves (IsBatch faults honest terms history committed clean may_find given) old new held now count result
+    → ServesTurns faults honest terms history committed clean may_find given old new held now count result
+as_one faults honest terms history committed clean may_find legal given old new held now count result serves =
     record {
       serves = serves;
-      composed = all_composed faults honest terms history committed given legal old new
+      composed = all_composed faults honest terms history committed clean may_find given legal old new
           serves.batches serves.lead;
     }

@@ -43,15 +43,16 @@ pub record Serves {S : Type 0} (IsStep : S → List Turn → S → Type 0) (old 
   pub shows : IfOk result (PrintsTurns held now (turns_in batches) count)
 
 module _ {B : Type 0} (faults : B → Faults) (honest : B → Type 0) (terms : B → Terms)
-    (history committed : B → List Entry) where
+    (history committed : B → List Entry) (clean : B → Type 0)
+    (may_find : B → Option (List Entry) → Type 0) where
   -- At most `count` turns of a server, in batches on the given day. If the book is honest after
   -- them, they give what one run over all their datagrams gives.
   pub record ServesTurns (given : Option ℕ) (old new : Trace × B) (held now : Option (List ℕ))
       (count : ℕ) (result : Result JobStatus WriteFault) : Type 0 where
-    pub serves : Serves (IsBatch faults honest terms history committed given) old new held now
+    pub serves : Serves (IsBatch faults honest terms history committed clean may_find given) old new held now
         count result
-    pub composed : honest new.1 → ServesAll faults honest terms history committed old.1 new.1
-        (deliveries_in faults honest terms history committed old new serves.batches given
+    pub composed : honest new.1 → ServesAll faults honest terms history committed clean may_find old.1 new.1
+        (deliveries_in faults honest terms history committed clean may_find old new serves.batches given
         serves.lead)
-        (answers_in faults honest terms history committed old new serves.batches given serves.lead)
+        (answers_in faults honest terms history committed clean may_find old new serves.batches given serves.lead)
         (turns_in serves.batches)

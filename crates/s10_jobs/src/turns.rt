@@ -48,7 +48,7 @@ pub fn serve_turns<R: Clock + Eprint, B: GroupCommit, L: Link, W: Write>(
     day: Option<u32>,
     out: &mut W,
 ) -> Result<JobStatus, WriteFault>
-    ensures turns { ServesTurns B.faults B.honest B.terms B.history B.committed day
+    ensures turns { ServesTurns B.faults B.honest B.terms B.history B.committed B.clean B.may_find day
         (L.trace_of link.old, book_of server.old) (L.trace_of link.new, book_of server.new)
         (W.contents out.old) (W.contents out.new) count result }
     ensures given { day ≢ None → result ≢ Ok JobStatus.Failed }
@@ -77,7 +77,7 @@ fn serve_batched<R: Eprint, B: GroupCommit, L: Link, W: Write>(
 ) -> Result<u32, WriteFault>
     requires { 1 ≤ most }
     ensures { PrintsBatch (λ turns. (room : ℕ) × ServesBatch B.faults B.honest B.terms B.history
-        B.committed day room
+        B.committed B.clean B.may_find day room
         (L.trace_of link.old, book_of server.old) (L.trace_of link.new, book_of server.new) turns)
         most (W.contents out.old) (W.contents out.new) result }
 {

@@ -40,7 +40,7 @@ where
     ensures unbound { result.1 ≡ None → IsUnbound book result.2 (W.contents out.old)
         (W.contents out.new) result.0 }
     ensures served { IfSome result.1
-        (λ link. ServesTurns B.faults B.honest B.terms B.history B.committed day
+        (λ link. ServesTurns B.faults B.honest B.terms B.history B.committed B.clean B.may_find day
         (new_trace, book) (link.trace, result.2)
         (W.contents out.old) (W.contents out.new) count result.0) }
 {

@@ -68,11 +68,11 @@ returns-clause-served g c = record {
 }
 
 pub returns-clause-stands : goal.returns-clause-stands
-returns-clause-stands g c = batch_stands _ _ _ _ _ c.args.day c.args.most _ _ _
+returns-clause-stands g c = batch_stands _ _ _ _ _ _ _ c.args.day c.args.most _ _ _
     (returns-clause-served g c)
 
 pub returns-clause-receives : goal.returns-clause-receives
-returns-clause-receives g c = batch_receives _ _ _ _ _ c.args.day c.args.most _ _ _
+returns-clause-receives g c = batch_receives _ _ _ _ _ _ _ c.args.day c.args.most _ _ _
     (returns-clause-served g c)
 
 pub returns-in_err-taken-clause-receives : goal.returns-in_err-taken-clause-receives

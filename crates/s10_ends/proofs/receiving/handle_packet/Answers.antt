@@ -6,7 +6,8 @@ use Rattle.s10_ends.proofs.receiving.handle_packet.Goals as goal
 pub returns-clause-handles : goal.returns-clause-handles
 returns-clause-handles g c =
     let P : List ℕ → Type 0 = λ b. Handles g.B.Book.faults g.B.Book.honest g.B.Book.terms
-    g.B.Book.history g.B.Book.committed (book_of c.args.server.now) (book_of c.handle.new.self)
+    g.B.Book.history g.B.Book.committed g.B.Book.clean g.B.Book.may_find (book_of c.args.server.now)
+        (book_of c.handle.new.self)
     c.args.day b c.handle.result in
     subst P c.bytes.ensures.bytes (
     record {
@@ -18,6 +19,7 @@ returns-clause-handles g c =
       served = c.handle.ensures.served;
       unchanged = c.handle.ensures.unchanged;
       stays_committed = c.handle.ensures.stays_committed;
+      stop = c.handle.ensures.stop;
     })
 
 pub returns-clause-whole : goal.returns-clause-whole

@@ -6,6 +6,8 @@ use Rattle.s10_history.specs.Settings.{Terms}
 use Rattle.s10_book.proofs.Calls.{grows_none, grows_trans, whole_stays, whole_kept}
 use Rattle.s10_ends.proofs.Faulted.{told_counts, never_full, ok_not_full}
 use Rattle.s10_ends.proofs.Applied.{once_new, kept_new}
+use Rattle.s10_book.proofs.Calls.{FindsAfter-refl}
+use Rattle.s10_ends.proofs.Stops.{finds_once, kept_once}
 use Rattle.s10_ends.proofs.server.execute.Goals as goal
 
 -- If the count of calls is not below the limit, it equals the limit.
@@ -230,3 +232,51 @@ returns-clause-stays_committed g c = λ h.
 
 pub returns-clause-committed : goal.returns-clause-committed
 returns-clause-committed g c = λ lasting h whole. c.in_ok-keep.ensures.committed lasting h
+
+-- The new call of a request is what applying the request adds.
+pub returns-then-limit-len-clause-stop : goal.returns-then-limit-len-clause-stop
+returns-then-limit-len-clause-stop g c = FindsAfter-refl c.args.book.now _
+
+pub returns-in_err-decide-clause-stop : goal.returns-in_err-decide-clause-stop
+returns-in_err-decide-clause-stop g c = finds_once c.args.book.now c.decide.new.book
+    c.args.request.now c.args.day _ c.decide.ensures.unchanged.stop
+
+pub returns-in_err-keep-clause-stop : goal.returns-in_err-keep-clause-stop
+returns-in_err-keep-clause-stop g c =
+    let e : Entry = record {
+      request = c.args.request.now;
+      day = c.max-day.result;
+      outcome = c.in_ok-decide.field-0;
+    } in
+    let old = g.B.Book.history c.args.book.now in
+    kept_once c.args.book.now c.decide.new.book c.keep.new.self c.args.request.now c.args.day
+    (g.B.Book.terms c.args.book.now).interval (e ∷ []) c.decide.ensures.unchanged
+    c.keep.ensures.stop
+    (λ h.
+        let h1 = c.decide.ensures.unchanged.was_honest h in
+        let day : c.max-day.result ≡ max (day_of old) c.args.day = c.max-day.ensures
+        ∙ ap (λ d. max d c.args.day) (c.day.ensures h1) in
+        once_new old (g.B.Book.history c.decide.new.book ++ e ∷ []) c.args.request.now c.args.day
+        c.max-day.result (g.B.Book.terms c.args.book.now).interval c.in_ok-decide.field-0
+        (c.requires h1) day (c.in_ok-decide.ensures.answer h)
+        (ap (λ l. l ++ e ∷ []) (c.decide.ensures.unchanged.same_history h)))
+
+pub returns-clause-stop : goal.returns-clause-stop
+returns-clause-stop g c =
+    let e : Entry = record {
+      request = c.args.request.now;
+      day = c.max-day.result;
+      outcome = c.in_ok-decide.field-0;
+    } in
+    let old = g.B.Book.history c.args.book.now in
+    kept_once c.args.book.now c.decide.new.book c.keep.new.self c.args.request.now c.args.day
+    (g.B.Book.terms c.args.book.now).interval (e ∷ []) c.decide.ensures.unchanged
+    c.keep.ensures.stop
+    (λ h.
+        let h1 = c.decide.ensures.unchanged.was_honest h in
+        let day : c.max-day.result ≡ max (day_of old) c.args.day = c.max-day.ensures
+        ∙ ap (λ d. max d c.args.day) (c.day.ensures h1) in
+        once_new old (g.B.Book.history c.decide.new.book ++ e ∷ []) c.args.request.now c.args.day
+        c.max-day.result (g.B.Book.terms c.args.book.now).interval c.in_ok-decide.field-0
+        (c.requires h1) day (c.in_ok-decide.ensures.answer h)
+        (ap (λ l. l ++ e ∷ []) (c.decide.ensures.unchanged.same_history h)))

@@ -4,6 +4,7 @@ use Rattle.s10_history.specs.History.{find_entry}
 use Rattle.s10_book.proofs.Calls.{grows_trans, whole_kept}
 use Rattle.s10_ends.proofs.Faulted.{told_counts, never_full}
 use Rattle.s10_ends.proofs.Applied.{once_kept, reused_fits}
+use Rattle.s10_ends.proofs.Stops.{finds_once, once_after_unchanged}
 use Rattle.s10_ends.proofs.server.respond.Goals as goal
 
 pub execute-requires : goal.execute-requires
@@ -147,3 +148,15 @@ returns-in_err-entry-clause-stays_committed g c = λ h. c.find.ensures.unchanged
 pub returns-in_err-entry-clause-committed : goal.returns-in_err-entry-clause-committed
 returns-in_err-entry-clause-committed g c = λ lasting h whole. whole_kept c.args.book.now
     c.find.new.self c.find.ensures.unchanged h (g.met.B.Book.first c.find.new.self h) whole
+
+pub returns-in-Some-clause-stop : goal.returns-in-Some-clause-stop
+returns-in-Some-clause-stop g c = finds_once c.args.book.now c.find.new.self c.args.request.now
+    c.args.day _ c.find.ensures.unchanged.stop
+
+pub returns-in_err-entry-clause-stop : goal.returns-in_err-entry-clause-stop
+returns-in_err-entry-clause-stop g c = finds_once c.args.book.now c.find.new.self
+    c.args.request.now c.args.day _ c.find.ensures.unchanged.stop
+
+pub returns-clause-stop : goal.returns-clause-stop
+returns-clause-stop g c = once_after_unchanged c.args.book.now c.find.new.self c.execute.new.book
+    c.args.request.now c.args.day c.find.ensures.unchanged c.execute.ensures.stop

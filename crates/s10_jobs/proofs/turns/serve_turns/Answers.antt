@@ -15,7 +15,7 @@ pub returns-in_err-done-clause-turns : goal.returns-in_err-done-clause-turns
 returns-in_err-done-clause-turns g c =
     as_one _ _ _ _ _ g.met.B.Book.legal c.args.day _ _ _ _ _ _
     (batch_unprinted (IsBatch g.B.Book.faults g.B.Book.honest g.B.Book.terms g.B.Book.history
-    g.B.Book.committed c.args.day)
+    g.B.Book.committed g.B.Book.clean g.B.Book.may_find c.args.day)
     (g.L.Link.trace_of c.args.link.now, c.args.server.now.book) (
       g.L.Link.trace_of c.loop-done.link,
       c.loop-done.server.book,
@@ -44,7 +44,7 @@ loop-done-preserved g c =
       few = let few = c.min-most.ensures in let test = c.loop-done-test.true in let short =
           shown.2 in let many = shown.3.0 in grind arith;
       served = batch_served (IsBatch g.B.Book.faults g.B.Book.honest g.B.Book.terms g.B.Book.history
-          g.B.Book.committed c.args.day)
+          g.B.Book.committed g.B.Book.clean g.B.Book.may_find c.args.day)
           (g.L.Link.trace_of c.args.link.now, c.args.server.now.book)
           (g.L.Link.trace_of c.loop-done.link, c.loop-done.server.book)
           (g.L.Link.trace_of c.serve_batched.new.link, c.serve_batched.new.server.book)

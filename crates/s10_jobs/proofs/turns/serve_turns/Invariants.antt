@@ -8,7 +8,7 @@ abbrev pub invariant-loop-done : goal.invariant-loop-done
 invariant-loop-done g l = record {
   few : l.done ≤ l.fn.count;
   served : HasServed (IsBatch g.B.Book.faults g.B.Book.honest g.B.Book.terms g.B.Book.history
-      g.B.Book.committed l.fn.day)
+      g.B.Book.committed g.B.Book.clean g.B.Book.may_find l.fn.day)
       (g.L.Link.trace_of l.fn.link, l.fn.server.book) (g.L.Link.trace_of l.link, l.server.book)
       (g.W.Write.contents l.fn.out) (g.W.Write.contents l.out) l.done;
 }

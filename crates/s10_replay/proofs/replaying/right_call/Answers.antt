@@ -2,7 +2,7 @@ use Rattle.std.proofs.Common.{◌≡◌, sym, ap, ◌∙◌, refl, List, ◌+◌
 use Rattle.s10_history.specs.declared.entry.Entry.{Entry}
 use Rattle.s10_history.specs.Settings.{Terms}
 use Rattle.s10_book.specs.Rules.{answer_of, MayFollow}
-use Rattle.s10_book.proofs.Calls.{Unchanged-trans}
+use Rattle.s10_book.proofs.Calls.{Unchanged-refl, Unchanged-trans}
 use Rattle.s10_replay.specs.ReadRows.{IsCallOf}
 use Rattle.s10_replay.proofs.Replayed.{unread_is_wrong, right_row}
 use Rattle.s10_replay.proofs.replaying.right_call.Goals as goal
@@ -51,3 +51,12 @@ returns-then-same_outcome-clause-unchanged g c = Unchanged-trans c.may_follow.en
 pub returns-else-same_outcome-clause-unchanged : goal.returns-else-same_outcome-clause-unchanged
 returns-else-same_outcome-clause-unchanged g c = Unchanged-trans c.may_follow.ensures.unchanged
     c.decide.ensures.unchanged
+
+pub returns-then-not-has_key_columns-clause-unchanged :
+    goal.returns-then-not-has_key_columns-clause-unchanged
+returns-then-not-has_key_columns-clause-unchanged g c = elim c.then-not-has_key_columns.branch [
+  | goal.then-not-has_key_columns-via-then-not-has_key_columns w ↦
+      rw w.book-is (Unchanged-refl c.args.book.now)
+  | goal.then-not-has_key_columns-via-else-not-has_key_columns+in_ok-may_follow+then-not-branch w ↦
+      rw w.book-is w.may_follow.ensures.unchanged
+]

@@ -6,6 +6,7 @@ use Rattle.s10_wire.specs.Datagrams.{Replies}
 use Rattle.s10_book.proofs.Calls.{grows_none}
 use Rattle.s10_ends.proofs.One.{only_first, not_dropped, reply_not_dropped, faulted_not_dropped}
 use Rattle.s10_ends.proofs.One.{Served-dropped, Served-reply, Served-faulted}
+use Rattle.s10_ends.proofs.Stops.{stops_none, stops_one}
 use Rattle.s10_ends.proofs.server.Server.handle.Goals as goal
 
 pub returns-in-Err-clause-served : goal.returns-in-Err-clause-served
@@ -116,3 +117,18 @@ returns-in-Err-respond-clause-stays_committed g c = c.respond.ensures.stays_comm
 
 pub returns-in-Err-respond-clause-committed : goal.returns-in-Err-respond-clause-committed
 returns-in-Err-respond-clause-committed g c = c.respond.ensures.committed
+
+pub returns-in-Err-clause-stop : goal.returns-in-Err-clause-stop
+returns-in-Err-clause-stop g c = stops_none g.B.Book.terms g.B.Book.history g.B.Book.committed
+    g.B.Book.honest g.B.Book.clean g.B.Book.may_find c.args.self.now.book _
+
+pub returns-in-Some-clause-stop : goal.returns-in-Some-clause-stop
+returns-in-Some-clause-stop g c = stops_one g.B.Book.terms g.B.Book.history g.B.Book.committed
+    g.B.Book.honest g.B.Book.clean g.B.Book.may_find c.args.self.now.book c.respond.new.book
+    c.args.bytes.now c.args.day c.in-Ok.request c.in-Ok.ensures.found c.respond.ensures.stop
+
+pub returns-in-Err-respond-clause-stop : goal.returns-in-Err-respond-clause-stop
+returns-in-Err-respond-clause-stop g c = stops_one g.B.Book.terms g.B.Book.history
+    g.B.Book.committed g.B.Book.honest g.B.Book.clean g.B.Book.may_find c.args.self.now.book
+    c.respond.new.book c.args.bytes.now c.args.day c.in-Ok.request c.in-Ok.ensures.found
+    c.respond.ensures.stop

@@ -12,6 +12,8 @@ use Rattle.s10_ends.proofs.Whole.{Served-nil}
 use Rattle.s10_ends.proofs.Runs.{CountsAll-nil, CountsAll-push, Served-map_push}
 use Rattle.s10_ends.proofs.Runs.{KeepsPromises-legal}
 use Rattle.s10_ends.proofs.Carried.{Served-issued}
+use Rattle.s10_ends.specs.Stop.{StopsAfter}
+use Rattle.s10_ends.proofs.Stops.{stops_none, stops_more}
 use Rattle.s10_ends.proofs.server.Server.run.Goals as goal
 
 pub returns-in_err-answers-clause-kept : goal.returns-in_err-answers-clause-kept
@@ -35,6 +37,8 @@ loop-delivery-init g c =
       committed = λ lasting h whole. whole;
       served = λ h. subst Q (sym c.in_ok-answers.ensures.items) (Served-nil (g.B.Book.history book)
           (g.B.Book.terms book));
+      stop = stops_none g.B.Book.terms g.B.Book.history g.B.Book.committed g.B.Book.honest
+          g.B.Book.clean g.B.Book.may_find book [];
     }
 
 pub loop-delivery-preserved : goal.loop-delivery-preserved
@@ -77,6 +81,25 @@ loop-delivery-preserved g c =
           (take c.loop-delivery.delivery-index c.args.deliveries.now) c.loop-delivery.answers.items
           c.delivery-item.result c.handle-answer.result
           (before.served h0) (before.same_terms h0) (subst P c.bytes.ensures.bytes one));
+      stop =
+          let all : take (c.loop-delivery.delivery-index + 1) c.args.deliveries.now
+          ≡ take c.loop-delivery.delivery-index c.args.deliveries.now ++ c.delivery-item.result
+          ∷ [] =
+          take_more c.args.deliveries.now c.loop-delivery.delivery-index c.delivery-item.result
+          c.loop-delivery-test.true
+          ∙ ap (λ (d : Delivery). take c.loop-delivery.delivery-index c.args.deliveries.now ++ d
+          ∷ []) (sym c.delivery-item.is) in
+          let P : List ℕ → Type 0 = λ b. StopsAfter g.B.Book.terms g.B.Book.history
+          g.B.Book.committed g.B.Book.honest g.B.Book.clean g.B.Book.may_find
+          c.loop-delivery.self.book c.handle-answer.new.self.book
+          ((b, c.delivery-item.result.day) ∷ []) in
+          rw all (stops_more g.B.Book.terms g.B.Book.history g.B.Book.committed g.B.Book.honest
+          g.B.Book.clean g.B.Book.may_find c.args.self.now.book c.loop-delivery.self.book
+          c.handle-answer.new.self.book
+          (take c.loop-delivery.delivery-index c.args.deliveries.now) c.delivery-item.result
+          c.loop-delivery.answers.items before.stop before.was_honest before.same_terms
+          before.served before.stays_committed (subst P c.bytes.ensures.bytes
+          c.handle-answer.ensures.stop));
     }
 
 pub push_reserved-requires : goal.push_reserved-requires
@@ -143,3 +166,11 @@ returns-clause-stays_committed g c = λ h. c.loop-delivery.invariant.stays_commi
 pub returns-clause-committed : goal.returns-clause-committed
 returns-clause-committed g c = λ lasting h whole. c.loop-delivery.invariant.committed lasting h
     whole
+
+pub returns-in_err-answers-clause-stop : goal.returns-in_err-answers-clause-stop
+returns-in_err-answers-clause-stop g c = stops_none g.B.Book.terms g.B.Book.history
+    g.B.Book.committed g.B.Book.honest g.B.Book.clean g.B.Book.may_find c.args.self.now.book _
+
+pub returns-clause-stop : goal.returns-clause-stop
+returns-clause-stop g c = rw (take_all c.loop-delivery.delivery-index c.args.deliveries.now
+    c.loop-delivery-test.false) at c.loop-delivery.invariant.stop

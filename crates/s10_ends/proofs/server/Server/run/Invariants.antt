@@ -3,6 +3,7 @@ use Rattle.std.specs.Prelude.{vec_len, vec_capacity}
 use Rattle.s10_book.specs.Book.{Grows}
 use Rattle.s10_ends.specs.Served.{Served}
 use Rattle.s10_ends.specs.Runs.{dated, CountsAll}
+use Rattle.s10_ends.specs.Stop.{StopsAfter}
 use Rattle.s10_ends.proofs.server.Server.run.Given as goal
 
 abbrev pub invariant-loop-delivery : goal.invariant-loop-delivery
@@ -21,4 +22,7 @@ invariant-loop-delivery g l = record {
   served : g.B.Book.honest l.self.book → Served (g.B.Book.history l.fn.self.book)
       (g.B.Book.terms l.fn.self.book) (map dated (take l.delivery-index l.deliveries))
       l.answers.items (g.B.Book.history l.self.book);
+  stop : StopsAfter g.B.Book.terms g.B.Book.history g.B.Book.committed g.B.Book.honest
+      g.B.Book.clean g.B.Book.may_find l.fn.self.book l.self.book
+      (map dated (take l.delivery-index l.deliveries));
 }

@@ -1,0 +1,327 @@
+-- Lemmas about what an opening may find after a stop.
+use Rattle.std.proofs.Common.{◌≡◌, ◌∙◌, refl, sym, ap, subst, ℕ, Bool, true, false, List, [], ◌∷◌}
+use Rattle.std.proofs.Common.{◌++◌, append-nil, append_assoc, map, Option, Some, Result, inl, inr}
+use Rattle.std.proofs.Common.{⊎_elim}
+use Rattle.std.proofs.lemmas.List.{map-append}
+use Rattle.std.proofs.lemmas.Option.{same_Some}
+use Rattle.s10_link.specs.declared.trace.Trace.{Trace}
+use Rattle.s10_wire.specs.declared.request.Request.{Request}
+use Rattle.s10_wire.specs.Datagrams.{Asks}
+use Rattle.s10_history.specs.declared.entry.Entry.{Entry}
+use Rattle.s10_history.specs.Settings.{Terms}
+use Rattle.s10_book.specs.declared.book_fault.BookFault.{BookFault}
+use Rattle.s10_book.specs.declared.faults.Faults.{Faults}
+use Rattle.s10_book.specs.Book.{Grows, FindsAfter, IsFoundBetween, Unchanged}
+use Rattle.s10_book.specs.Once.{first_arrivals, applied_once}
+use Rattle.s10_book.specs.Rules.{IsLegal}
+use Rattle.s10_book.proofs.Calls.{grows_none, grows_trans}
+use Rattle.s10_ends.specs.declared.answer.Answer.{Answer}
+use Rattle.s10_ends.specs.declared.answer.Answer.TheVariants.{Reply, Dropped, Faulted}
+use Rattle.s10_ends.specs.declared.delivery.Delivery.{Delivery}
+use Rattle.s10_ends.specs.declared.exchange.Exchange.{Exchange}
+use Rattle.s10_ends.specs.Runs.{dated}
+use Rattle.s10_ends.specs.Served.{Dated, IsOnce, Served, not_faulted}
+use Rattle.s10_ends.specs.Served.AreAsked.{none as asked_none, request as asked}
+use Rattle.s10_ends.specs.Stop.{AreSome, IsFoundAmong, StopsAfter}
+use Rattle.s10_ends.specs.Stop.AreSome.{none, without, with}
+use Rattle.s10_ends.specs.Turn.{Turn, Handles, Commits}
+use Rattle.s10_ends.specs.Batch.{ReceivesAll, ServesBatch, has_reply}
+use Rattle.s10_ends.specs.Batch.ReceivesAll.{none as taken_none, more as taken_more}
+use Rattle.s10_ends.specs.Composed.{BatchesLead, turns_in, IsBatch, deliveries_in, answers_in}
+use Rattle.s10_ends.specs.Composed.{SurvivesStop}
+use Rattle.s10_ends.proofs.Whole.{IsOnce-append, grows, of_history}
+use Rattle.s10_ends.proofs.Standing.{all_sent}
+use Rattle.s10_ends.proofs.Composing.{all_composed, all_more, upto_taken, upto_batch, Upto, here}
+use Rattle.s10_ends.proofs.Composing.{honest_taken, honest_batch, honest_batches, packets}
+use Rattle.s10_ends.proofs.Composing.{answers_of}
+
+pub some_none : (ds : List Dated) → AreSome [] ds
+some_none [] = none
+some_none (d ∷ ds) = without (some_none ds)
+
+pub some_more : {some ds : List Dated} (es : List Dated) → AreSome some ds → AreSome some (ds ++ es)
+some_more es none = some_none es
+some_more es (without are) = without (some_more es are)
+some_more es (with are) = with (some_more es are)
+
+pub some_append : {some ds more es : List Dated} → AreSome some ds → AreSome more es
+    → AreSome (some ++ more) (ds ++ es)
+some_append none rest = rest
+some_append (without are) rest = without (some_append are rest)
+some_append (with are) rest = with (some_append are rest)
+
+pub some_served : (ds : List Dated) (ans : List Answer) → AreSome (not_faulted ds ans) ds
+some_served [] ans = none
+some_served (d ∷ ds) [] = some_none (d ∷ ds)
+some_served (d ∷ ds) (Reply frame ∷ ans) = with (some_served ds ans)
+some_served (d ∷ ds) (Dropped fault ∷ ans) = with (some_served ds ans)
+some_served (d ∷ ds) (Faulted fault ∷ ans) = without (some_served ds ans)
+
+-- Applying deliveries only adds to a history.
+pub once_grows : (h after : List Entry) (ds : List Dated) (n : ℕ) → IsOnce h ds n after
+    → Grows h after
+once_grows h after ds n once =
+    let more = grows n h (first_arrivals (of_history h) once.0) in (more.0, once.2 ∙ more.1)
+
+-- A call that kept no request: an opening may find what applying one would make.
+pub finds_once : {B : Type 0} {committed : B → List Entry} {honest clean : B → Type 0}
+    {may_find : B → Option (List Entry) → Type 0} (a b : B) {h : List Entry} (q : Request)
+    (day n : ℕ) → FindsAfter committed honest clean may_find a b h
+    → FindsAfter committed honest clean may_find a b (applied_once h ((q, day) ∷ []) n)
+finds_once {B} {committed} {honest} {clean} {may_find} a b {h} q day n stop = record {
+  was_clean = stop.was_clean;
+  finds = λ c found may. ⊎_elim inl (λ it. inr (it.0, (it.1.0, it.1.1, it.1.2,
+      grows_trans it.1.0 h (applied_once h ((q, day) ∷ []) n) it.1.3
+      (grows n h (first_arrivals (of_history h) ((q, day) ∷ [])))))) (stop.finds c found may);
+}
+
+-- A read, and then one after which an opening may find what a request makes.
+pub once_after_unchanged : {B : Type 0} {history committed : B → List Entry} {terms : B → Terms}
+    {honest clean : B → Type 0} {may_find : B → Option (List Entry) → Type 0} (a b c : B)
+    (q : Request) (day : ℕ) → Unchanged history committed terms honest clean may_find a b
+    → FindsAfter committed honest clean may_find b c
+    (applied_once (history b) ((q, day) ∷ []) (terms b).interval)
+    → FindsAfter committed honest clean may_find a c
+    (applied_once (history a) ((q, day) ∷ []) (terms a).interval)
+once_after_unchanged {B} {history} {committed} {terms} {honest} {clean} {may_find} a b c q day
+    first second = record {
+  was_clean = λ d. first.stop.was_clean (second.was_clean d);
+  finds = λ d found may. ⊎_elim
+      (λ was. (finds_once a b q day (terms a).interval first.stop).finds (second.was_clean d) found
+          was)
+      (λ it. inr (first.was_honest it.0, (it.1.0, it.1.1,
+          grows_trans (committed a) (committed b) it.1.0 (first.stays_committed it.0) it.1.2,
+          subst (λ (h : List Entry). Grows it.1.0 (applied_once h ((q, day) ∷ [])
+          (terms a).interval)) (first.same_history it.0)
+          (subst (λ (t : Terms). Grows it.1.0 (applied_once (history b) ((q, day) ∷ [])
+          t.interval)) (first.same_terms it.0) it.1.3))))
+      (second.finds d found may);
+}
+
+-- A read, and then a new request's call that was kept, or was about to be.
+pub kept_once : {B : Type 0} {history committed : B → List Entry} {terms : B → Terms}
+    {honest clean : B → Type 0} {may_find : B → Option (List Entry) → Type 0} (a b c : B)
+    (q : Request) (day n : ℕ) (more : List Entry)
+    → Unchanged history committed terms honest clean may_find a b
+    → FindsAfter committed honest clean may_find b c (history b ++ more)
+    → (honest b → history b ++ more ≡ applied_once (history a) ((q, day) ∷ []) n)
+    → FindsAfter committed honest clean may_find a c
+    (applied_once (history a) ((q, day) ∷ []) n)
+kept_once {B} {history} {committed} {terms} {honest} {clean} {may_find} a b c q day n more first
+    second applied = record {
+  was_clean = λ d. first.stop.was_clean (second.was_clean d);
+  finds = λ d found may. ⊎_elim
+      (λ was. (finds_once a b q day n first.stop).finds (second.was_clean d) found was)
+      (λ it. inr (first.was_honest it.0, (it.1.0, it.1.1,
+          grows_trans (committed a) (committed b) it.1.0 (first.stays_committed it.0) it.1.2,
+          subst (Grows it.1.0) (applied it.0) it.1.3)))
+      (second.finds d found may);
+}
+
+module _ {B : Type 0} (terms : B → Terms) (history committed : B → List Entry)
+    (honest clean : B → Type 0) (may_find : B → Option (List Entry) → Type 0) where
+  abbrev Stops : B → B → List Dated → Type 0
+  Stops = StopsAfter terms history committed honest clean may_find
+
+  pub stops_none : (a : B) (ds : List Dated) → Stops a a ds
+  stops_none a ds = record {
+    was_clean = λ c. c;
+    finds = λ c found may. inl may;
+  }
+
+  pub stops_same : (a b : B) (ds : List Dated) → b ≡ a → Stops a b ds
+  stops_same a b ds same = subst (λ (x : B). Stops a x ds) (sym same) (stops_none a ds)
+
+  pub stops_unchanged : (a b : B) → Unchanged history committed terms honest clean may_find a b
+      → Stops a b []
+  stops_unchanged a b unchanged = record {
+    was_clean = unchanged.stop.was_clean;
+    finds = λ c found may. ⊎_elim inl
+        (λ it. inr (it.0, ([], history a, none, ([], asked_none, refl), it.1)))
+        (unchanged.stop.finds c found may);
+  }
+
+  -- One request that was applied, or was about to be.
+  pub stops_one : (a b : B) (bytes : List ℕ) (day : ℕ) (q : Request) → Asks bytes q
+      → FindsAfter committed honest clean may_find a b
+      (applied_once (history a) ((q, day) ∷ []) (terms a).interval)
+      → Stops a b ((bytes, day) ∷ [])
+  stops_one a b bytes day q asks stop = record {
+    was_clean = stop.was_clean;
+    finds = λ c found may. ⊎_elim inl
+        (λ it. inr (it.0, ((bytes, day) ∷ [],
+            applied_once (history a) ((q, day) ∷ []) (terms a).interval, with none,
+            ((q, day) ∷ [], asked asks asked_none, refl), it.1)))
+        (stop.finds c found may);
+  }
+
+  -- Deliveries, and then more. If the book was honest in between, the first ones were served.
+  pub stops_trans : (a b c : B) (ds es : List Dated) (ans : List Answer) → Stops a b ds
+      → (honest b → honest a) → (honest b → terms b ≡ terms a)
+      → (honest b → Served (history a) (terms a) ds ans (history b))
+      → (honest b → Grows (committed a) (committed b))
+      → Stops b c es → Stops a c (ds ++ es)
+  stops_trans a b c ds es ans first was_honest same_terms served stays second = record {
+    was_clean = λ d. first.was_clean (second.was_clean d);
+    finds = λ d found may. ⊎_elim
+        (λ was. ⊎_elim inl
+            (λ it. inr (it.0, (it.1.0, it.1.1, some_more es it.1.2, it.1.3, it.1.4)))
+            (first.finds (second.was_clean d) found was))
+        (λ it.
+            let more : List Dated = it.1.0 in
+            let whole : List Entry = it.1.1 in
+            let once : IsOnce (history b) more (terms a).interval whole =
+            subst (λ (t : Terms). IsOnce (history b) more t.interval whole) (same_terms it.0)
+            it.1.3 in
+            inr (was_honest it.0, (not_faulted ds ans ++ more, whole,
+            some_append (some_served ds ans) it.1.2,
+            IsOnce-append (history a) (history b) whole (not_faulted ds ans) more (terms a).interval
+            (served it.0).once_each once,
+            (it.1.4.0, it.1.4.1, grows_trans (committed a) (committed b) it.1.4.0 (stays it.0)
+            it.1.4.2, it.1.4.3))))
+        (second.finds d found may);
+  }
+
+  -- One more delivery of a run.
+  pub stops_more : (a b c : B) (ds : List Delivery) (d : Delivery) (ans : List Answer)
+      → Stops a b (map dated ds) → (honest b → honest a) → (honest b → terms b ≡ terms a)
+      → (honest b → Served (history a) (terms a) (map dated ds) ans (history b))
+      → (honest b → Grows (committed a) (committed b))
+      → Stops b c (dated d ∷ []) → Stops a c (map dated (ds ++ d ∷ []))
+  stops_more a b c ds d ans first was_honest same_terms served stays second =
+      subst (λ (l : List Dated). Stops a c l) (sym (map-append dated ds (d ∷ [])))
+      (stops_trans a b c (map dated ds) (dated d ∷ []) ans first was_honest same_terms served stays
+      second)
+
+module _ {B : Type 0} (faults : B → Faults) (honest : B → Type 0) (terms : B → Terms)
+    (history committed : B → List Entry) (clean : B → Type 0)
+    (may_find : B → Option (List Entry) → Type 0) (given : Option ℕ) where
+  abbrev StopsIn : B → B → List Dated → Type 0
+  StopsIn = StopsAfter terms history committed honest clean may_find
+
+  abbrev Handled : ℕ → B → B → List ℕ → Answer → Type 0
+  Handled day before after b answer = Handles faults honest terms history committed clean may_find
+      before after day b answer
+
+  abbrev sent : ℕ → List Exchange → List Dated
+  sent day ts = map (λ (t : Exchange). (t.packet, day)) ts
+
+  abbrev told : List Exchange → List Answer
+  told ts = map (λ (t : Exchange). t.answer) ts
+
+  of_list : (a b : B) (ds es : List Dated) → es ≡ ds → StopsIn a b ds → StopsIn a b es
+  of_list a b ds es same stops = subst (λ (l : List Dated). StopsIn a b l) (sym same) stops
+
+  stops_taken : (day : ℕ) (old new : Trace × B) (ts : List Exchange)
+      → ReceivesAll (Handled day) old ts new → StopsIn old.1 new.1 (sent day ts)
+  stops_taken day old _ _ taken_none = stops_none terms history committed honest clean may_find
+      old.1 []
+  stops_taken day old new _ (taken_more {between = between} {taken = ts} {next = next} takes
+      last) =
+      let upto : honest between.1 → Upto faults honest terms history committed clean may_find given
+      (history old.1) (terms old.1) (committed old.1) (sent day ts) (told ts) between.1 =
+      λ h. upto_taken faults honest terms history committed clean may_find given (history old.1)
+      (terms old.1) (committed old.1) day [] [] old between ts takes h
+      (here faults honest terms history committed clean may_find given old.1) in
+      of_list old.1 new.1 (sent day ts ++ (next.packet, day) ∷ []) (sent day (ts ++ next ∷ []))
+      (map-append (λ (t : Exchange). (t.packet, day)) ts (next ∷ []))
+      (stops_trans terms history committed honest clean may_find old.1 between.1 new.1 (sent day ts)
+      ((next.packet, day) ∷ []) (told ts) (stops_taken day old between ts takes)
+      (honest_taken faults honest terms history committed clean may_find given day old between ts
+      takes)
+      (λ h. (upto h).same_terms) (λ h. (upto h).served) (λ h. (upto h).stays_committed)
+      last.1.stop)
+
+  stops_answered : (between new : B) (flag : Bool) (commit_result : Result (Unit {0}) BookFault)
+      → (flag ≡ true
+      → Commits faults honest terms history committed clean may_find between new commit_result)
+      → (flag ≡ false → new ≡ between) → StopsIn between new []
+  stops_answered between new false commit_result commits unasked =
+      stops_same terms history committed honest clean may_find between new [] (unasked refl)
+  stops_answered between new true commit_result commits unasked =
+      stops_unchanged terms history committed honest clean may_find between new
+      (commits refl).unchanged
+
+  pub stops_batch : (day most : ℕ) (old new : Trace × B) (batch : List Turn)
+      (it : ServesBatch faults honest terms history committed clean may_find day most old new batch)
+      → StopsIn old.1 new.1 (sent day it.taken)
+  stops_batch day most old new batch it =
+      let middle = it.takes.handled in
+      let after : StopsIn middle.1 new.1 [] = subst (λ (x : B). StopsIn x new.1 []) it.takes.same
+      (stops_answered it.between.1 new.1 (has_reply it.taken) it.answers.commit_result
+      it.answers.commits it.answers.unasked) in
+      let upto : honest middle.1 → Upto faults honest terms history committed clean may_find given
+      (history old.1) (terms old.1) (committed old.1) (sent day it.taken) (told it.taken)
+      middle.1 =
+      λ h. upto_taken faults honest terms history committed clean may_find given (history old.1)
+      (terms old.1) (committed old.1) day [] [] old middle it.taken it.takes.takes h
+      (here faults honest terms history committed clean may_find given old.1) in
+      of_list old.1 new.1 (sent day it.taken ++ []) (sent day it.taken)
+      (sym (append-nil (sent day it.taken)))
+      (stops_trans terms history committed honest clean may_find old.1 middle.1 new.1
+      (sent day it.taken) [] (told it.taken) (stops_taken day old middle it.taken it.takes.takes)
+      (honest_taken faults honest terms history committed clean may_find given day old middle
+      it.taken it.takes.takes)
+      (λ h. (upto h).same_terms) (λ h. (upto h).served) (λ h. (upto h).stays_committed) after)
+
+  pub stops_batches : (old new : Trace × B) (batches : List (List Turn))
+      (lead : BatchesLead (IsBatch faults honest terms history committed clean may_find given) old
+      batches new)
+      → StopsIn old.1 new.1 (deliveries_in faults honest terms history committed clean may_find old
+      new batches given lead)
+  unfolding BatchesLead deliveries_in
+  stops_batches old new [] same = stops_same terms history committed honest clean may_find old.1
+      new.1 [] (ap (λ (s : Trace × B). s.1) same)
+  stops_batches old new (batch ∷ batches) (next, (day, is, most, it), rest) =
+      let upto : honest next.1 → Upto faults honest terms history committed clean may_find given
+      (history old.1) (terms old.1) (committed old.1) (sent day it.taken) (told it.taken)
+      next.1 =
+      λ h. upto_batch faults honest terms history committed clean may_find given (history old.1)
+      (terms old.1) (committed old.1) [] [] day most old next batch it h
+      (here faults honest terms history committed clean may_find given old.1) in
+      stops_trans terms history committed honest clean may_find old.1 next.1 new.1
+      (sent day it.taken)
+      (deliveries_in faults honest terms history committed clean may_find next new batches given
+      rest)
+      (told it.taken) (stops_batch day most old next batch it)
+      (honest_batch faults honest terms history committed clean may_find given old next batch
+      (day, is, most, it))
+      (λ h. (upto h).same_terms) (λ h. (upto h).served) (λ h. (upto h).stays_committed)
+      (stops_batches next new batches rest)
+
+  pub survived : ((book : B) → honest book → IsLegal (history book) (terms book))
+      → ((book : B) → honest book → Grows (committed book) (history book))
+      → ((book : B) → honest book → (found : Option (List Entry)) → may_find book found
+      → found ≡ Some (committed book))
+      → (old new : Trace × B)
+      → SurvivesStop faults honest terms history committed clean may_find given old new
+  survived legal first_law found_law old new first rest between before after h c found may =
+      let all = all_composed faults honest terms history committed clean may_find given legal old
+      between first before h in
+      let ds = deliveries_in faults honest terms history committed clean may_find old between first
+      given before in
+      let ans = answers_in faults honest terms history committed clean may_find old between first
+      given before in
+      let es = deliveries_in faults honest terms history committed clean may_find between new rest
+      given after in
+      let among : IsFoundAmong (committed between.1) (history old.1) (terms old.1).interval
+      (ds ++ es) found =
+      ⊎_elim
+      (λ was. (not_faulted ds ans, history between.1, some_more es (some_served ds ans),
+      all.served.once_each, (committed between.1, found_law between.1 h found was,
+      grows_none (committed between.1), first_law between.1 h)))
+      (λ it. (not_faulted ds ans ++ it.1.0, it.1.1, some_append (some_served ds ans) it.1.2,
+      IsOnce-append (history old.1) (history between.1) it.1.1 (not_faulted ds ans) it.1.0
+      (terms old.1).interval all.served.once_each
+      (subst (λ (t : Terms). IsOnce (history between.1) it.1.0 t.interval it.1.1) all.same_terms
+      it.1.3), it.1.4))
+      ((stops_batches between new rest after).finds c found may) in
+      (
+        among,
+        λ calls is.
+            let same : among.4.0 ≡ calls = same_Some among.4.0 calls (sym among.4.1 ∙ is) in
+            let grew : Grows (committed between.1) calls =
+            subst (Grows (committed between.1)) same among.4.2 in
+            all_sent calls ds (turns_in first) (all_more (committed between.1) calls ds ds
+            (turns_in first) grew (λ d inside. inside) all.owed),
+      )
