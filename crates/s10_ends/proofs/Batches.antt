@@ -2,23 +2,25 @@
 use Rattle.std.proofs.Common.{◌≡◌, ◌∙◌, ℕ, ◌<◌, ◌≤◌, Bool, true, false, List, [], ◌∷◌, ◌++◌}
 use Rattle.std.proofs.Common.{length, length-append, Option}
 use Rattle.std.proofs.Common.{Some, None, Result, Ok, Err, refl, sym, ap, subst, inl, inr, arith}
-use Rattle.std.specs.Prelude.{⊤, IsErrAnd, ◌||◌}
+use Rattle.std.specs.Prelude.{⊤, IsErrAnd}
+use Rattle.std.proofs.lemmas.List.Elements.{All-nil, All-cons}
 use Rattle.std.proofs.lemmas.Bool.{false≢true}
 use Rattle.s10_link.specs.declared.trace.Trace.{Trace}
 use Rattle.s10_link.specs.declared.peer.Peer.{Peer}
 use Rattle.s10_link.specs.declared.link_fault.LinkFault.{LinkFault}
 use Rattle.s10_history.specs.declared.entry.Entry.{Entry}
 use Rattle.s10_history.specs.Settings.{Terms}
+use Rattle.s10_history.specs.History.{find_entry}
 use Rattle.s10_book.specs.declared.book_fault.BookFault.{BookFault}
 use Rattle.s10_book.specs.declared.faults.Faults.{Faults}
-use Rattle.s10_book.proofs.Calls.{Unchanged-refl}
 use Rattle.s10_ends.specs.declared.answer.Answer.{Answer}
 use Rattle.s10_ends.specs.declared.answer.Answer.TheVariants.{Reply, Dropped, Faulted}
 use Rattle.s10_ends.specs.declared.exchange.Exchange.{Exchange}
 use Rattle.s10_ends.specs.declared.server_turn.ServerTurn.TheVariants as turns
 use Rattle.s10_ends.specs.Turn.{Turn, Handles, Commits, Takes, AsksCommitted, Answers}
 use Rattle.s10_ends.specs.Batch.{ReceivesAll, EndsReceiving, ReceivesBatch, ServesBatch}
-use Rattle.s10_ends.specs.Batch.{turns_of_batch, is_reply}
+use Rattle.s10_ends.specs.Batch.{turns_of_batch, is_reply, HasCommittedReply, CommitsIfPending}
+use Rattle.s10_ends.specs.Served.{AskSomething, IsAnswered}
 use Rattle.s10_ends.specs.Batch.ReceivesAll.{none as taken_none, more as taken_more}
 use Rattle.s10_ends.specs.Batch.AnswersAll.{none as answered_none, more as answered_more}
 use Rattle.s10_ends.proofs.Turns.{same_error}
@@ -95,10 +97,12 @@ pub turns_few : {B : Type 0} (Handled : B → B → List ℕ → Answer → Type
 turns_few Handled most old new taken ended answered batch some few many =
     turns_at_most most taken batch.handled.0 new.0 ended answered batch.ends some few many
 
--- A flag or false is the flag.
-alone : (x : Bool) → (x || false) ≡ x
-alone true = refl
-alone false = refl
+-- A reply is owed to bytes that ask something.
+owed_asks : (h : List Entry) (b : List ℕ) (a : Answer) → is_reply a ≡ true → IsAnswered h b a
+    → AskSomething b
+owed_asks h b (Reply frame) is owed = (owed.0, owed.2)
+owed_asks h b (Dropped fault) is owed = absurd (false≢true is)
+owed_asks h b (Faulted fault) is owed = absurd (false≢true is)
 
 -- A turn with no condition on its call is one that is right once the calls are committed.
 answered_committed : (Honest : Type 0) (IsCommitted : List ℕ → Type 0) (old new : Trace) (to : Peer)
@@ -130,8 +134,8 @@ module _ {B : Type 0} (faults : B → Faults) (honest : B → Type 0) (terms : B
     answered = [];
     answers = record {
       commit_result = Ok tt;
-      commits = λ some. absurd (false≢true some);
-      unasked = λ it. refl;
+      commits = inr (refl, refl, λ h. All-nil (HasCommittedReply (committed between.1)
+          (history between.1)));
       answers = answered_none;
     };
     are = are;
@@ -155,13 +159,12 @@ module _ {B : Type 0} (faults : B → Faults) (honest : B → Type 0) (terms : B
   pub one_served : (new : Trace × B) (found : Option Exchange) (taken : Exchange)
       (commit_result : Result (Unit {0}) BookFault) (turn : Turn)
       → Takes Handled old between (Ok found) → found ≡ Some taken
-      → (is_reply taken.answer ≡ true
-      → Commits faults honest terms history committed clean may_find between.1 new.1 commit_result)
-      → (is_reply taken.answer ≡ false → new.1 ≡ between.1)
+      → CommitsIfPending faults honest terms history committed clean may_find between.1 new.1
+      (taken ∷ []) commit_result
       → Answers (honest new.1) (AsksCommitted (committed new.1) (history new.1)) between.0 new.0
       commit_result taken.from taken.packet taken.answer turn
       → ServesBatch faults honest terms history committed clean may_find day 1 old new (turn ∷ [])
-  one_served new found taken commit_result turn count_receive is commits same answers = record {
+  one_served new found taken commit_result turn count_receive is commits answers = record {
     taken = taken ∷ [];
     between = between;
     ended = Ok tt;
@@ -170,8 +173,7 @@ module _ {B : Type 0} (faults : B → Faults) (honest : B → Type 0) (terms : B
     answered = turn ∷ [];
     answers = record {
       commit_result = commit_result;
-      commits = λ some. commits (sym (alone (is_reply taken.answer)) ∙ some);
-      unasked = λ none. same (sym (alone (is_reply taken.answer)) ∙ none);
+      commits = commits;
       answers = answered_more taken turn answered_none answers;
     };
     are = refl;
@@ -185,14 +187,17 @@ module _ {B : Type 0} (faults : B → Faults) (honest : B → Type 0) (terms : B
       → ServesBatch faults honest terms history committed clean may_find day 1 old (trace,
           between.1) (turn ∷ [])
   one_committed trace found taken turn count_receive is whole answers =
+      let P : Option Exchange → Type 0 = λ o. Takes Handled old between (Ok o) in
+      let handled = (subst P is count_receive).1 in
       one_served (trace, between.1) found taken (Ok tt) turn count_receive is
-      (λ some. record {
-        counts = refl;
-        unchanged = Unchanged-refl between.1;
-        done = whole;
-        left = λ h. tt;
-      })
-      (λ none. refl)
+      (inr (refl, refl, λ h. All-cons (HasCommittedReply (committed between.1) (history between.1))
+      taken []
+      (λ reply.
+          let asks = owed_asks (history between.1) taken.packet taken.answer reply
+          (handled.served h).answered.0 in
+          (asks.0, asks.1, ap (λ (l : List Entry). find_entry l asks.0.customer asks.0.number)
+          (whole h)))
+      (All-nil (HasCommittedReply (committed between.1) (history between.1)))))
       (answered_committed (honest between.1) (AsksCommitted (committed between.1)
       (history between.1))
       between.0 trace taken.from taken.packet taken.answer turn answers)

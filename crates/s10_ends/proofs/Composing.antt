@@ -1,7 +1,7 @@
 -- Lemmas about batches one after another.
 use Rattle.std.proofs.Common.{◌≡◌, ◌∙◌, refl, sym, ap, subst, ℕ, Bool, true, false, List, []}
 use Rattle.std.proofs.Common.{◌∷◌, ◌++◌}
-use Rattle.std.proofs.Common.{append-nil, append_assoc, map, Option, Result, Ok, Err}
+use Rattle.std.proofs.Common.{append-nil, append_assoc, map, Option, Result, Ok, Err, inl, inr}
 use Rattle.std.specs.Prelude.{All, Contains}
 use Rattle.std.proofs.lemmas.List.{map-append}
 use Rattle.std.proofs.lemmas.List.Elements.{All-nil, All-append, All-weaker}
@@ -19,7 +19,7 @@ use Rattle.s10_ends.specs.declared.exchange.Exchange.{Exchange}
 use Rattle.s10_ends.specs.declared.server_turn.ServerTurn.TheVariants as turns
 use Rattle.s10_ends.specs.Served.{Dated, IsOwed, Served}
 use Rattle.s10_ends.specs.Turn.{Turn, Handles, Commits}
-use Rattle.s10_ends.specs.Batch.{ReceivesAll, ServesBatch, IsOwedReply, has_reply}
+use Rattle.s10_ends.specs.Batch.{ReceivesAll, ServesBatch, IsOwedReply, CommitsIfPending}
 use Rattle.s10_ends.specs.Batch.ReceivesAll.{none as taken_none, more as taken_more}
 use Rattle.s10_ends.specs.Composed.{BatchesLead, turns_in, IsBatch, deliveries_in, answers_in}
 use Rattle.s10_ends.specs.Composed.{ServesAll}
@@ -67,22 +67,19 @@ module _ {B : Type 0} (faults : B → Faults) (honest : B → Type 0) (terms : B
   honest_taken day old new _ (taken_more {between = between} takes count_receive) h =
       honest_taken day old between _ takes (count_receive.1.was_honest h)
 
-  pub honest_answered : (between new : B) (flag : Bool) (commit_result : Result (Unit {0})
-      BookFault)
-      → (flag ≡ true → Commits faults honest terms history committed clean may_find between new
-          commit_result)
-      → (flag ≡ false → new ≡ between)
+  pub honest_answered : (between new : B) (ts : List Exchange)
+      (commit_result : Result (Unit {0}) BookFault)
+      → CommitsIfPending faults honest terms history committed clean may_find between new ts
+      commit_result
       → honest new → honest between
-  honest_answered between new false commit_result commits unasked h =
-      subst honest (unasked refl) h
-  honest_answered between new true commit_result commits unasked h =
-      (commits refl).unchanged.was_honest h
+  honest_answered between new ts commit_result (inl it) h = it.2.unchanged.was_honest h
+  honest_answered between new ts commit_result (inr it) h = subst honest it.0 h
 
   pub honest_batch : (old new : Trace × B) (batch : List Turn) → IsBatch faults honest terms history
       committed clean may_find given old batch new → honest new.1 → honest old.1
   honest_batch old new batch (day, is, most, it) h =
-      let between = honest_answered it.between.1 new.1 (has_reply it.taken) it.answers.commit_result
-      it.answers.commits it.answers.unasked h in
+      let between = honest_answered it.between.1 new.1 it.taken it.answers.commit_result
+      it.answers.commits h in
       honest_taken day old it.takes.handled it.taken it.takes.takes
       (subst honest it.takes.same between)
 
@@ -151,16 +148,15 @@ module _ {B : Type 0} (faults : B → Faults) (honest : B → Type 0) (terms : B
         next.answer count_receive.1 h (upto_taken day ds ans old between ts takes
         (count_receive.1.was_honest h) upto))
 
-    upto_answered : (ds : List Dated) (ans : List Answer) (between new : B) (flag : Bool)
+    upto_answered : (ds : List Dated) (ans : List Answer) (between new : B) (ts : List Exchange)
         (commit_result : Result (Unit {0}) BookFault)
-        → (flag ≡ true → Commits faults honest terms history committed clean may_find between new
-            commit_result)
-        → (flag ≡ false → new ≡ between)
+        → CommitsIfPending faults honest terms history committed clean may_find between new ts
+        commit_result
         → honest new → Upto ds ans between → Upto ds ans new
-    upto_answered ds ans between new false commit_result commits unasked h upto =
-        upto_same ds ans between new (unasked refl) upto
-    upto_answered ds ans between new true commit_result commits unasked h upto =
-        let unchanged = (commits refl).unchanged in
+    upto_answered ds ans between new ts commit_result (inr it) h upto =
+        upto_same ds ans between new it.0 upto
+    upto_answered ds ans between new ts commit_result (inl it) h upto =
+        let unchanged = it.2.unchanged in
         record {
           same_terms = unchanged.same_terms h ∙ upto.same_terms;
           served = subst (λ (l : List Entry). Served start t ds ans l)
@@ -176,13 +172,12 @@ module _ {B : Type 0} (faults : B → Faults) (honest : B → Type 0) (terms : B
         batch) → honest new.1 → Upto ds ans old.1
         → Upto (ds ++ packets day it.taken) (ans ++ answers_of it.taken) new.1
     upto_batch ds ans day most old new batch it h upto =
-        let between = honest_answered it.between.1 new.1 (has_reply it.taken)
-        it.answers.commit_result
-        it.answers.commits it.answers.unasked h in
+        let between = honest_answered it.between.1 new.1 it.taken it.answers.commit_result
+      it.answers.commits h in
         let taken = upto_taken day ds ans old it.takes.handled it.taken it.takes.takes
         (subst honest it.takes.same between) upto in
         upto_answered (ds ++ packets day it.taken) (ans ++ answers_of it.taken) it.between.1 new.1
-        (has_reply it.taken) it.answers.commit_result it.answers.commits it.answers.unasked h
+        it.taken it.answers.commit_result it.answers.commits h
         (upto_same (ds ++ packets day it.taken) (ans ++ answers_of it.taken) it.takes.handled.1
         it.between.1 it.takes.same taken)
 

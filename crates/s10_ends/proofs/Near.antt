@@ -15,7 +15,7 @@ use Rattle.s10_ends.specs.NearEnds.{NearEnds}
 use Rattle.s10_ends.specs.declared.server.Server.{Server}
 use Rattle.s10_ends.specs.Served.{Dated, Served}
 use Rattle.s10_ends.specs.Server.{book_of}
-use Rattle.s10_ends.specs.Turn.{Turn, Handles, Takes, Tells, ServesOne}
+use Rattle.s10_ends.specs.Turn.{Turn, Handles, Takes, AnswersTaken, ServesOne}
 use Rattle.s10_ends.specs.NearLink.{IsNearStep, ServedOn}
 use Rattle.s10_ends.proofs.Whole.{Served-nil, Served-push}
 
@@ -75,20 +75,20 @@ module _ {B F N : Type 0} (faults : B → Faults) (honest : B → Type 0) (terms
       (taken : Result (Option Exchange) LinkFault) (turn : Turn) → LedOn day book old.1
       → Takes (λ before after b answer. Handles faults honest terms history committed clean may_find
           before after
-      day b answer) old between taken → Tells between new taken turn → LedOn day book new.1
-  turned day book old between new (Ok None) turn led takes tells =
-      still day book old.1 new.1 led (ap (λ (s : Trace × B). s.1) tells.0 ∙ takes.1)
-  turned day book old between new (Ok (Some t)) turn led takes tells =
+      day b answer) old between taken → AnswersTaken between new taken turn → LedOn day book new.1
+  turned day book old between new (Ok None) turn led takes answers =
+      still day book old.1 new.1 led (ap (λ (s : Trace × B). s.1) answers.0 ∙ takes.1)
+  turned day book old between new (Ok (Some t)) turn led takes answers =
       still day book between.1 new.1
-      (handled day book old.1 between.1 t.packet t.answer led takes.1) tells.0
-  turned day book old between new (Err fault) turn led takes tells =
-      still day book old.1 new.1 led (ap (λ (s : Trace × B). s.1) tells.0 ∙ takes.1)
+      (handled day book old.1 between.1 t.packet t.answer led takes.1) answers.0
+  turned day book old between new (Err fault) turn led takes answers =
+      still day book old.1 new.1 led (ap (λ (s : Trace × B). s.1) answers.0 ∙ takes.1)
 
   served : (day : ℕ) (book : B) (old new : Trace × B) (turn : Turn) → LedOn day book old.1
       → ServesOne faults honest terms history committed clean may_find day old new turn → LedOn day
           book new.1
   served day book old new turn led one = turned day book old one.between new one.taken turn led
-      one.takes one.tells
+      one.takes one.answers
 
   abbrev Step : NearEnds B F N → NearEnds B F N → Type 0
   Step = IsNearStep faults honest terms history committed clean may_find far near

@@ -1,11 +1,10 @@
 -- Lemmas about the replies of a batch, which the committed calls give.
 use Rattle.std.proofs.Common.{◌≡◌, ◌∙◌, refl, sym, ap, subst, ℕ, Bool, true, false, List, [], ◌∷◌}
-use Rattle.std.proofs.Common.{◌++◌, map, Option, Result, Ok, Err, inl, inr}
-use Rattle.std.specs.Prelude.{◌↔◌, IsTrue, All, Contains, OnOk, ◌||◌}
+use Rattle.std.proofs.Common.{◌++◌, map, Option, Result, Ok, Err, ◌⊎◌, inl, inr, ⊎_elim}
+use Rattle.std.specs.Prelude.{◌↔◌, IsTrue, All, Contains, OnOk}
 use Rattle.std.specs.List.{AllZip}
 use Rattle.std.proofs.lemmas.Bool.{false≢true}
 use Rattle.std.proofs.lemmas.List.{map-append}
-use Rattle.std.proofs.lemmas.List.Folds.{list_any-append}
 use Rattle.std.proofs.lemmas.List.Elements.{All-nil, All-cons, All-head, All-tail, All-push}
 use Rattle.std.proofs.lemmas.List.Elements.{All-weaker, Contains-push, Contains-append_left}
 use Rattle.std.proofs.lemmas.List.Elements.{Contains-append_right}
@@ -32,7 +31,8 @@ use Rattle.s10_ends.specs.Served.{Served}
 use Rattle.s10_ends.specs.Turn.{Turn, Handles, Commits, AsksCommitted, SendsReply, WithholdsReply}
 use Rattle.s10_ends.specs.Turn.{Answers, sent_turn}
 use Rattle.s10_ends.specs.Batch.{ReceivesAll, AnswersAll, ServesBatch, IsSentCommitted}
-use Rattle.s10_ends.specs.Batch.{IsOwedReply, is_reply, has_reply, turns_of_batch}
+use Rattle.s10_ends.specs.Batch.{IsOwedReply, is_reply, turns_of_batch, CommitsIfPending}
+use Rattle.s10_ends.specs.Batch.{HasCommittedReply, AllCommitted}
 use Rattle.s10_ends.specs.Batch.ReceivesAll.{none as taken_none, more as taken_more}
 use Rattle.s10_ends.specs.Batch.AnswersAll.{none as answered_none, more as answered_more}
 use Rattle.s10_ends.proofs.Whole.{Served-nil, Served-push}
@@ -73,29 +73,6 @@ first_of P (y ∷ ys) x all = All-cons P y ys (All-head P y (ys ++ x ∷ []) all
 last_of : {X : Type 0} (P : X → Type 0) (xs : List X) (x : X) → All P (xs ++ x ∷ []) → P x
 last_of P [] x all = All-head P x [] all
 last_of P (y ∷ ys) x all = last_of P ys x (All-tail P y (ys ++ x ∷ []) all)
-
--- Flags joined by or are true if one of them is.
-first_set : (x y : Bool) → x ≡ true → (x || y) ≡ true
-first_set true y is = refl
-first_set false y is = absurd (false≢true is)
-
-last_set : (x y : Bool) → y ≡ true → (x || (y || false)) ≡ true
-last_set true y is = refl
-last_set false true is = refl
-last_set false false is = absurd (false≢true is)
-
--- A batch has a reply if its first datagrams have one, or its last one has.
-replies_first : (ts : List Exchange) (next : Exchange) → has_reply ts ≡ true
-    → has_reply (ts ++ next ∷ []) ≡ true
-replies_first ts next is =
-    list_any-append (λ (t : Exchange). is_reply t.answer) ts (next ∷ [])
-    ∙ first_set (has_reply ts) (has_reply (next ∷ [])) is
-
-replies_last : (ts : List Exchange) (next : Exchange) → is_reply next.answer ≡ true
-    → has_reply (ts ++ next ∷ []) ≡ true
-replies_last ts next is =
-    list_any-append (λ (t : Exchange). is_reply t.answer) ts (next ∷ [])
-    ∙ last_set (has_reply ts) (is_reply next.answer) is
 
 -- Lemmas about one turn.
 module _ (Honest : Type 0) (committed h : List Entry) (ds : List Dated) (day : ℕ)
@@ -140,12 +117,13 @@ module _ (Honest : Type 0) (committed h : List Entry) (ds : List Dated) (day : �
 
   turn_stands : (old new : Trace) (commit_result : Result (Unit {0}) BookFault) (to : Peer)
       (b : List ℕ) (answer : Answer) (turn : Turn)
-      → (is_reply answer ≡ true → OnOk commit_result (committed ≡ h))
+      → (is_reply answer ≡ true → OnOk commit_result ((committed ≡ h) ⊎ Own b))
       → Contains ds (b, day) → IsAnswered h b answer
       → Answers Honest Own old new commit_result to b answer turn
       → IsOwedReply committed ds turn
   turn_stands old new (Ok _) to b (Reply frame) turn done inside owed answers =
-      sent old new to frame turn answers ((b, day), inside, owed_stands b frame (done refl) owed)
+      sent old new to frame turn answers ((b, day), inside, ⊎_elim
+      (λ same. owed_stands b frame same owed) (stands b frame owed) (done refl))
   turn_stands old new (Err fault) to b (Reply frame) turn done inside owed answers = elim answers [
     | inl w ↦ sent old new to frame turn w.1 ((b, day), inside, stands b frame owed (w.0 at))
     | inr w ↦ held old new fault to turn w.1
@@ -159,8 +137,13 @@ module _ (Honest : Type 0) (committed h : List Entry) (ds : List Dated) (day : �
   abbrev IsInside : Exchange → Type 0
   IsInside t = Contains ds (t.packet, day)
 
+  -- If the commit succeeded, all calls are committed or the own one of a reply is.
+  abbrev IsDone : Result (Unit {0}) BookFault → Exchange → Type 0
+  IsDone commit_result t = is_reply t.answer ≡ true
+      → OnOk commit_result ((committed ≡ h) ⊎ Own t.packet)
+
   all_stand : (commit_result : Result (Unit {0}) BookFault) (old new : Trace) (ts : List Exchange)
-      (answered : List Turn) → (has_reply ts ≡ true → OnOk commit_result (committed ≡ h))
+      (answered : List Turn) → All (IsDone commit_result) ts
       → All (IsTakenAnswered h) ts → All IsInside ts
       → AnswersAll Honest Own commit_result old ts answered new
       → All (IsOwedReply committed ds) answered
@@ -169,11 +152,28 @@ module _ (Honest : Type 0) (committed h : List Entry) (ds : List Dated) (day : �
   all_stand commit_result old new _ _ done owed inside (answered_more {between = between}
       {taken = ts} {answered = answered} next turn before answers) =
       All-push (IsOwedReply committed ds) answered turn
-      (all_stand commit_result old between ts answered (λ it. done (replies_first ts next it))
+      (all_stand commit_result old between ts answered (first_of (IsDone commit_result) ts next
+          done)
       (first_of (IsTakenAnswered h) ts next owed) (first_of IsInside ts next inside) before)
       (turn_stands between new commit_result next.from next.packet next.answer turn
-      (λ it. done (replies_last ts next it)) (last_of IsInside ts next inside)
+      (last_of (IsDone commit_result) ts next done) (last_of IsInside ts next inside)
       (last_of (IsTakenAnswered h) ts next owed) answers)
+
+  -- After a commit, or over exchanges whose replies are to committed calls.
+  done_by_commit : (commit_result : Result (Unit {0}) BookFault) (ts : List Exchange)
+      → OnOk commit_result (committed ≡ h) → All (IsDone commit_result) ts
+  done_by_commit (Ok u) [] done = All-nil (IsDone (Ok u))
+  done_by_commit (Ok u) (t ∷ ts) done = All-cons (IsDone (Ok u)) t ts (λ reply. inl done)
+      (done_by_commit (Ok u) ts done)
+  done_by_commit (Err fault) [] done = All-nil (IsDone (Err fault))
+  done_by_commit (Err fault) (t ∷ ts) done = All-cons (IsDone (Err fault)) t ts (λ reply. tt)
+      (done_by_commit (Err fault) ts tt)
+
+  done_before : (commit_result : Result (Unit {0}) BookFault) (ts : List Exchange)
+      → commit_result ≡ Ok tt → AllCommitted committed h ts → All (IsDone commit_result) ts
+  done_before commit_result ts is all =
+      All-weaker (HasCommittedReply committed h) (IsDone commit_result)
+      (λ t own reply. rw is (inr (own reply))) ts all
 
 -- A property of the turns of the exchanges holds for all turns of the batch.
 told : (committed : List Entry) (ds : List Dated) (ended : Result (Unit {0}) LinkFault)
@@ -242,15 +242,27 @@ module _ {B : Type 0} (faults : B → Faults) (honest : B → Type 0) (terms : B
             (subst P before.same_terms (one.served h))));
       }
 
-  by_flag : (flag : Bool) (old new : B) (commit_result : Result (Unit {0}) BookFault)
-      → (flag ≡ true → Commits faults honest terms history committed clean may_find old new
-          commit_result)
-      → (flag ≡ false → new ≡ old) → honest new → honest old × (history new ≡ history old)
-  by_flag false old new commit_result commits same h =
-      (subst honest (same refl) h, ap history (same refl))
-  by_flag true old new commit_result commits same h =
-      let unchanged = (commits refl).unchanged in
-      (unchanged.was_honest h, unchanged.same_history h)
+  by_commit : (old new : B) (ts : List Exchange) (commit_result : Result (Unit {0}) BookFault)
+      → CommitsIfPending faults honest terms history committed clean may_find old new ts
+      commit_result
+      → honest new → honest old × (history new ≡ history old)
+  by_commit old new ts commit_result (inr it) h = (subst honest it.0 h, ap history it.0)
+  by_commit old new ts commit_result (inl it) h =
+      (it.2.unchanged.was_honest h, it.2.unchanged.same_history h)
+
+  all_done : (old new : B) (ts : List Exchange) (commit_result : Result (Unit {0}) BookFault)
+      (ds : List Dated)
+      → CommitsIfPending faults honest terms history committed clean may_find old new ts
+      commit_result
+      → (h : honest new)
+      → All (IsDone (honest new) (committed new) (history new) ds day h commit_result) ts
+  all_done old new ts commit_result ds (inl it) h =
+      done_by_commit (honest new) (committed new) (history new) ds day h commit_result ts
+      (it.2.done h)
+  all_done old new ts commit_result ds (inr it) h =
+      done_before (honest new) (committed new) (history new) ds day h commit_result ts it.1
+      (subst (λ (b : B). AllCommitted (committed b) (history b) ts) (sym it.0)
+      (it.2 (subst honest it.0 h)))
 
   -- The datagrams of a batch are among the deliveries.
   pub inside_of : (ts : List Exchange) (ds : List Dated)
@@ -271,8 +283,8 @@ module _ {B : Type 0} (faults : B → Faults) (honest : B → Type 0) (terms : B
           turns)
       → honest new.1 → All (IsOwedReply (committed new.1) (packets batch.taken)) turns
   batch_owes most old new turns batch h =
-      let before = by_flag (has_reply batch.taken) batch.between.1 new.1
-      batch.answers.commit_result batch.answers.commits batch.answers.unasked h in
+      let before = by_commit batch.between.1 new.1 batch.taken batch.answers.commit_result
+      batch.answers.commits h in
       let same = ap history batch.takes.same in
       let served =
       (serves_taken old batch.takes.handled batch.taken batch.takes.takes
@@ -283,7 +295,9 @@ module _ {B : Type 0} (faults : B → Faults) (honest : B → Type 0) (terms : B
       let ds = packets batch.taken in
       let all = all_stand (honest new.1) (committed new.1) (history new.1) ds day h
       batch.answers.commit_result batch.between.0 new.0 batch.taken batch.answered
-      (λ some. (batch.answers.commits some).done h) owed
+      (all_done batch.between.1 new.1 batch.taken batch.answers.commit_result ds
+          batch.answers.commits h)
+      owed
       (inside_of batch.taken ds (λ d is. is)) batch.answers.answers in
       subst (λ (l : List Turn). All (IsOwedReply (committed new.1) ds) l) (sym batch.are)
       (told (committed new.1) ds batch.ended batch.answered all)

@@ -25,7 +25,7 @@ use Rattle.s10_ends.specs.Served.AreAsked.{none as asked_none, request as asked}
 use Rattle.s10_ends.specs.Stop.{AreSome, IsFoundAmong, StopsAfter}
 use Rattle.s10_ends.specs.Stop.AreSome.{none, without, with}
 use Rattle.s10_ends.specs.Turn.{Turn, Handles, Commits}
-use Rattle.s10_ends.specs.Batch.{ReceivesAll, ServesBatch, has_reply}
+use Rattle.s10_ends.specs.Batch.{ReceivesAll, ServesBatch, CommitsIfPending}
 use Rattle.s10_ends.specs.Batch.ReceivesAll.{none as taken_none, more as taken_more}
 use Rattle.s10_ends.specs.Composed.{BatchesLead, turns_in, IsBatch, deliveries_in, answers_in}
 use Rattle.s10_ends.specs.Composed.{SurvivesStop}
@@ -232,15 +232,14 @@ module _ {B : Type 0} (faults : B → Faults) (honest : B → Type 0) (terms : B
       (λ h. (upto h).same_terms) (λ h. (upto h).served) (λ h. (upto h).stays_committed)
       last.1.stop)
 
-  stops_answered : (between new : B) (flag : Bool) (commit_result : Result (Unit {0}) BookFault)
-      → (flag ≡ true
-      → Commits faults honest terms history committed clean may_find between new commit_result)
-      → (flag ≡ false → new ≡ between) → StopsIn between new []
-  stops_answered between new false commit_result commits unasked =
-      stops_same terms history committed honest clean may_find between new [] (unasked refl)
-  stops_answered between new true commit_result commits unasked =
-      stops_unchanged terms history committed honest clean may_find between new
-      (commits refl).unchanged
+  stops_answered : (between new : B) (ts : List Exchange)
+      (commit_result : Result (Unit {0}) BookFault)
+      → CommitsIfPending faults honest terms history committed clean may_find between new ts
+      commit_result → StopsIn between new []
+  stops_answered between new ts commit_result (inr it) =
+      stops_same terms history committed honest clean may_find between new [] it.0
+  stops_answered between new ts commit_result (inl it) =
+      stops_unchanged terms history committed honest clean may_find between new it.2.unchanged
 
   pub stops_batch : (day most : ℕ) (old new : Trace × B) (batch : List Turn)
       (it : ServesBatch faults honest terms history committed clean may_find day most old new batch)
@@ -248,8 +247,7 @@ module _ {B : Type 0} (faults : B → Faults) (honest : B → Type 0) (terms : B
   stops_batch day most old new batch it =
       let middle = it.takes.handled in
       let after : StopsIn middle.1 new.1 [] = subst (λ (x : B). StopsIn x new.1 []) it.takes.same
-      (stops_answered it.between.1 new.1 (has_reply it.taken) it.answers.commit_result
-      it.answers.commits it.answers.unasked) in
+      (stops_answered it.between.1 new.1 it.taken it.answers.commit_result it.answers.commits) in
       let upto : honest middle.1 → Upto faults honest terms history committed clean may_find given
       (history old.1) (terms old.1) (committed old.1) (sent day it.taken) (told it.taken)
       middle.1 =

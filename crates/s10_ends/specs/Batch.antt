@@ -1,6 +1,6 @@
 -- A batch: datagrams that a server receives together, commits in one transaction, then replies to.
 use Rattle.std.specs.Prelude.{◌≡◌, ◌⊎◌, ℕ, ⊤, Bool, true, false, ◌+◌, ◌<◌, ◌≤◌, List, [], ◌∷◌}
-use Rattle.std.specs.Prelude.{◌++◌, length, count_by, Contains, Some, Result, Ok, Err, Option}
+use Rattle.std.specs.Prelude.{◌++◌, length, count_by, Contains, Some, Result, Ok, Err, Option, All}
 use Rattle.std.specs.List.{list_any}
 use Rattle.s10_link.specs.declared.trace.Trace.{Trace}
 use Rattle.s10_link.specs.declared.link_fault.LinkFault.{LinkFault}
@@ -50,6 +50,15 @@ is_reply answer = false
 abbrev pub has_reply : List Exchange → Bool
 has_reply taken = list_any (λ (t : Exchange). is_reply t.answer) taken
 
+-- If the exchange has a reply, its own call is committed.
+abbrev pub HasCommittedReply : List Entry → List Entry → Exchange → Type 0
+HasCommittedReply committed h taken = is_reply taken.answer ≡ true
+    → AsksCommitted committed h taken.packet
+
+-- Each reply of these exchanges is to a committed call.
+abbrev pub AllCommitted : List Entry → List Entry → List Exchange → Type 0
+AllCommitted committed h taken = All (HasCommittedReply committed h) taken
+
 -- Each exchange was replied to in order, and has one turn.
 pub data AnswersAll (Honest : Type 0) (IsCommitted : List ℕ → Type 0)
     (commit_result : Result (Unit {0}) BookFault) : Trace → List Exchange → List Turn → Trace
@@ -92,15 +101,21 @@ ReceivesAtMost most old new turns = new.calls + old.sends
 module _ {B : Type 0} (faults : B → Faults) (honest : B → Type 0) (terms : B → Terms)
     (history committed : B → List Entry) (clean : B → Type 0)
     (may_find : B → Option (List Entry) → Type 0) where
-  -- If some answer is a reply, the calls were committed, and only then were the replies sent.
-  -- Otherwise the book is unchanged.
+  -- If some reply is to a call that was not committed, all calls were committed. Otherwise the book
+  -- is unchanged, and each reply is to a committed call.
+  abbrev pub CommitsIfPending : B → B → List Exchange → Result (Unit {0}) BookFault → Type 0
+  CommitsIfPending old new taken commit_result =
+      ((has_reply taken ≡ true) × (honest old → ¬ (AllCommitted (committed old) (history old)
+          taken))
+      × Commits faults honest terms history committed clean may_find old new commit_result)
+      ⊎ ((new ≡ old) × (commit_result ≡ Ok tt)
+      × (honest old → AllCommitted (committed old) (history old) taken))
+
+  -- The calls were committed if a reply needed it, and only then were the replies sent.
   pub record CommitsAndReplies (old new : Trace × B) (taken : List Exchange)
       (answered : List Turn) : Type 0 where
     pub commit_result : Result (Unit {0}) BookFault
-    pub commits : has_reply taken ≡ true → Commits faults honest terms history committed clean
-        may_find old.1
-        new.1 commit_result
-    pub unasked : has_reply taken ≡ false → new.1 ≡ old.1
+    pub commits : CommitsIfPending old.1 new.1 taken commit_result
     pub answers : AnswersAll (honest new.1) (AsksCommitted (committed new.1) (history new.1))
         commit_result old.0 taken answered new.0
 

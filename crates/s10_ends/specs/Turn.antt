@@ -116,12 +116,13 @@ StaysWhole honest history committed old new = honest new → committed old ≡ h
 
 -- A turn without a commit, by the result of the receive. If the answer is a reply, it is sent.
 -- Otherwise nothing is sent.
-abbrev pub Tells : {B : Type 0} → Trace × B → Trace × B → Result (Option Exchange) LinkFault → Turn
+abbrev pub AnswersTaken : {B : Type 0} → Trace × B → Trace × B → Result (Option Exchange) LinkFault
+    → Turn
     → Type 0
-Tells between new (Ok None) turn = (new ≡ between) × (turn ≡ Ok turns.Quiet)
-Tells between new (Ok (Some taken)) turn = (new.1 ≡ between.1)
+AnswersTaken between new (Ok None) turn = (new ≡ between) × (turn ≡ Ok turns.Quiet)
+AnswersTaken between new (Ok (Some taken)) turn = (new.1 ≡ between.1)
     × Answers ⊤ (λ _. ⊤) between.0 new.0 (Ok tt) taken.from taken.packet taken.answer turn
-Tells between new (Err fault) turn = (new ≡ between) × (turn ≡ Err fault)
+AnswersTaken between new (Err fault) turn = (new ≡ between) × (turn ≡ Err fault)
 
 -- One receive, the handling of the datagram on the day, and at most one send, without a commit.
 pub record ServesOne {B : Type 0} (faults : B → Faults) (honest : B → Type 0) (terms : B → Terms)
@@ -133,4 +134,4 @@ pub record ServesOne {B : Type 0} (faults : B → Faults) (honest : B → Type 0
   pub takes : Takes (λ before after b answer. Handles faults honest terms history committed clean
       may_find before
       after day b answer) old between taken
-  pub tells : Tells between new taken turn
+  pub answers : AnswersTaken between new taken turn

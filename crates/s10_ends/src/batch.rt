@@ -5,9 +5,9 @@ ghost use Rattle.s10_ends.specs.Server.{book_of};
 ghost use Rattle.s10_ends.specs.Batch.{ServesBatch, CommitsAndReplies, IsSentCommitted};
 ghost use Rattle.s10_ends.specs.Batch.{ReceivesAtMost, turns_of_batch};
 
-use crate::committing::commit_if;
+use crate::committing::commit_if_pending;
 use crate::exchange::Exchange;
-use crate::receiving::{has_reply, receive_batch};
+use crate::receiving::receive_batch;
 use crate::replying::reply_all;
 use crate::server::Server;
 use crate::server_turn::{ServerTurn, Turn};
@@ -16,8 +16,8 @@ use s10_link::{Link, LinkFault};
 use std::alloc::{AllocError, Global};
 
 /// Receives up to `most` datagrams, waiting only for the first, commits their calls in one
-/// transaction, then sends the replies, each to its peer. If no datagram has a reply, nothing is
-/// committed.
+/// transaction, then sends the replies, each to its peer. If each reply is to a call that was
+/// committed before, or there is no reply, no commit is tried.
 ///
 /// Returns one turn per datagram, in order of arrival, at most `most` in all. A receive that failed
 /// is one more turn, the last one. If no datagram arrived, the only turn is `Quiet`. If the commit
@@ -58,7 +58,7 @@ pub fn serve_batch<B: GroupCommit, L: Link>(
     Ok(turns)
 }
 
-// Commits the calls of a batch if some datagram has a reply, then sends the replies.
+// Commits the calls of a batch if a reply is to a pending call, then sends the replies.
 fn commit_and_reply<B: GroupCommit, L: Link>(
     server: &mut Server<B>,
     link: &mut L,
@@ -74,7 +74,7 @@ fn commit_and_reply<B: GroupCommit, L: Link>(
     ensures many { length turns.new.items ≡ length taken.now }
     ensures capacity { vec_capacity turns.new ≡ vec_capacity turns.old }
 {
-    let commit_result = commit_if(server, has_reply(taken));
+    let commit_result = commit_if_pending(server, taken);
     reply_all(link, server, taken, commit_result, turns);
 }
 

@@ -2,23 +2,54 @@
 
 ghost use Rattle.std.specs.Prelude.{◌≡◌, true, false};
 ghost use Rattle.s10_ends.specs.Server.{book_of};
-ghost use Rattle.s10_ends.specs.Turn.{Commits};
+ghost use Rattle.s10_ends.specs.Batch.{CommitsIfPending, HasCommittedReply, AllCommitted};
+ghost use Rattle.s10_ends.specs.Batch.{is_reply as is_a_reply, has_reply};
 
+use crate::exchange::Exchange;
+use crate::receiving::is_reply;
 use crate::server::Server;
 use s10_book::{BookFault, GroupCommit};
 
-// Commits the calls of the server if `wanted`. Otherwise leaves the book unchanged.
-pub(crate) fn commit_if<B: GroupCommit>(
+// Commits the calls of the server if a reply of these exchanges is to a pending call. Otherwise
+// leaves the book unchanged, so that a repeat of a committed call needs no commit.
+pub(crate) fn commit_if_pending<B: GroupCommit>(
     server: &mut Server<B>,
-    wanted: bool,
+    taken: &[Exchange],
 ) -> Result<(), BookFault>
-    ensures commits { wanted ≡ true → Commits B.faults B.honest B.terms B.history B.committed
-        B.clean B.may_find
-        (book_of server.old) (book_of server.new) result }
-    ensures unasked { wanted ≡ false → book_of server.new ≡ book_of server.old }
+    ensures { CommitsIfPending B.faults B.honest B.terms B.history B.committed B.clean B.may_find
+        (book_of server.old) (book_of server.new) taken.now result }
 {
-    if wanted {
+    if has_pending_reply(server, taken) {
         return server.commit();
     }
     Ok(())
+}
+
+fn has_pending_reply<B: GroupCommit>(server: &Server<B>, taken: &[Exchange]) -> bool
+    ensures reply { result ≡ true → has_reply taken.now ≡ true }
+    ensures pending { result ≡ true → B.honest (book_of server.now)
+        → ¬ (AllCommitted (B.committed (book_of server.now)) (B.history (book_of server.now))
+        taken.now) }
+    ensures none { result ≡ false → B.honest (book_of server.now)
+        → AllCommitted (B.committed (book_of server.now)) (B.history (book_of server.now))
+        taken.now }
+{
+    for next in taken {
+        if is_pending_reply(server, next) {
+            return true;
+        }
+    }
+    false
+}
+
+fn is_pending_reply<B: GroupCommit>(server: &Server<B>, taken: &Exchange) -> bool
+    ensures reply { result ≡ true → is_a_reply taken.now.answer ≡ true }
+    ensures pending { result ≡ true → B.honest (book_of server.now)
+        → ¬ (HasCommittedReply (B.committed (book_of server.now)) (B.history (book_of server.now))
+        taken.now) }
+    ensures none { result ≡ false → B.honest (book_of server.now)
+        → HasCommittedReply (B.committed (book_of server.now)) (B.history (book_of server.now))
+        taken.now }
+{
+    is_reply(taken) && !server.is_committed(taken.packet.bytes())
 }

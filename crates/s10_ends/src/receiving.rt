@@ -4,7 +4,6 @@ ghost use Rattle.std.specs.Prelude.{◌≡◌, ◌≤◌, [], length, vec_capaci
 ghost use Rattle.s10_ends.specs.Server.{book_of};
 ghost use Rattle.s10_ends.specs.Turn.{Handles, Takes};
 ghost use Rattle.s10_ends.specs.Batch.{ReceivesBatch, is_reply as is_a_reply};
-ghost use Rattle.s10_ends.specs.Batch.{has_reply as has_a_reply};
 
 use crate::answer::Answer;
 use crate::exchange::Exchange;
@@ -103,11 +102,4 @@ pub(crate) fn is_reply(taken: &Exchange) -> bool
     ensures { result ≡ is_a_reply taken.now.answer }
 {
     matches!(taken.answer, Answer::Reply(_))
-}
-
-// Returns whether some datagram has a reply.
-pub(crate) fn has_reply(taken: &[Exchange]) -> bool
-    ensures { result ≡ has_a_reply taken.now }
-{
-    taken.iter().any(|t| is_reply(t))
 }

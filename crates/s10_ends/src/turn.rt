@@ -5,8 +5,8 @@ ghost use Rattle.s10_ends.specs.Server.{book_of};
 ghost use Rattle.s10_ends.specs.Turn.{ServesOne};
 ghost use Rattle.s10_ends.specs.Batch.{ServesBatch, IsSentCommitted, ReceivesAtMost};
 
-use crate::committing::commit_if;
-use crate::receiving::{is_reply, take};
+use crate::committing::commit_if_pending;
+use crate::receiving::take;
 use crate::replying::{answer, answer_committed};
 use crate::server::Server;
 use crate::server_turn::{ServerTurn, Turn};
@@ -16,8 +16,8 @@ use s10_link::Link;
 /// Serves at most one datagram over a durable book, without a commit: one receive, and at most one
 /// send.
 ///
-/// If all calls of the book were committed, they are committed again afterwards, and the turn is
-/// that of a batch of at most one datagram. The function does not allocate.
+/// If all calls were committed before, all are afterwards, and the turn is that of a batch of at
+/// most one datagram. The function does not allocate.
 ///
 /// # Errors
 ///
@@ -49,7 +49,7 @@ pub fn serve_one<B: Book, L: Link>(server: &mut Server<B>, link: &mut L, day: u3
 }
 
 /// Serves a batch of at most one datagram, without allocating: one receive, a commit if there is a
-/// reply, and at most one send.
+/// reply to a pending call, and at most one send.
 ///
 /// # Errors
 ///
@@ -73,6 +73,6 @@ pub fn serve_batch_of_one<B: GroupCommit, L: Link>(
     let Some(taken) = take(server, link, day)? else {
         return Ok(ServerTurn::Quiet);
     };
-    let commit_result = commit_if(server, is_reply(&taken));
+    let commit_result = commit_if_pending(server, &[taken]);
     answer(link, server, &taken, commit_result)
 }

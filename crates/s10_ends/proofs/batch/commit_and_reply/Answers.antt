@@ -1,4 +1,3 @@
-use Rattle.std.proofs.Common.{◌∙◌}
 use Rattle.s10_ends.proofs.batch.commit_and_reply.Goals as goal
 
 pub reply_all-requires-clause-none : goal.reply_all-requires-clause-none
@@ -9,9 +8,8 @@ reply_all-requires-clause-room g c = c.requires.room
 
 pub returns-clause-answered : goal.returns-clause-answered
 returns-clause-answered g c = record {
-  commit_result = c.commit_if-commit_result.result;
-  commits = λ some. c.commit_if-commit_result.ensures.commits (c.has_reply.ensures ∙ some);
-  unasked = λ none. c.commit_if-commit_result.ensures.unasked (c.has_reply.ensures ∙ none);
+  commit_result = c.commit_if_pending-commit_result.result;
+  commits = c.commit_if_pending-commit_result.ensures;
   answers = c.reply_all.ensures.answers;
 }
 

@@ -1,4 +1,3 @@
-use Rattle.std.proofs.Common.{◌∙◌}
 use Rattle.s10_ends.proofs.ReceiveCount.{batch_receives}
 use Rattle.s10_ends.proofs.Batches.{one_failed, one_quiet, one_served}
 use Rattle.s10_ends.proofs.Standing.{turn_of_batch}
@@ -19,10 +18,8 @@ returns-in_default-clause-served g c = one_quiet _ _ _ _ _ _ _ c.args.day _ _ c.
 
 pub returns-clause-served : goal.returns-clause-served
 returns-clause-served g c = one_served _ _ _ _ _ _ _ c.args.day _ _ _ c.in_ok-taken.field-0
-    c.in-Some.taken c.commit_if-commit_result.result c.answer.result c.in_ok-taken.ensures.takes
-    c.in-Some.is
-    (λ some. c.commit_if-commit_result.ensures.commits (c.is_reply.ensures ∙ some))
-    (λ none. c.commit_if-commit_result.ensures.unasked (c.is_reply.ensures ∙ none))
+    c.in-Some.taken c.commit_if_pending-commit_result.result c.answer.result
+    c.in_ok-taken.ensures.takes c.in-Some.is c.commit_if_pending-commit_result.ensures
     c.answer.ensures
 
 pub returns-clause-stands : goal.returns-clause-stands

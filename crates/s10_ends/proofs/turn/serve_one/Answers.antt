@@ -11,7 +11,7 @@ returns-in_err-taken-clause-turn g c = record {
   between = (g.L.Link.trace_of c.take.new.link, book_of c.take.new.server);
   taken = Err c.in_err-taken.field-0.0;
   takes = c.in_err-taken.ensures.takes;
-  tells = (
+  answers = (
     refl,
     same_error c.from_residual.result c.in_err-taken.field-0.0
         c.from_residual.ensures.1,
@@ -26,7 +26,7 @@ returns-in_default-clause-turn g c = record {
       g.B.Book.terms g.B.Book.history g.B.Book.committed g.B.Book.clean g.B.Book.may_find before
           after c.args.day b answer) _ _
       c.in_ok-taken.field-0 None c.in_default.is c.in_ok-taken.ensures.takes;
-  tells = (refl, refl);
+  answers = (refl, refl);
 }
 
 pub returns-clause-turn : goal.returns-clause-turn
@@ -38,7 +38,7 @@ returns-clause-turn g c = record {
           after c.args.day b answer) _ _
       c.in_ok-taken.field-0 (Some c.in-Some.taken) c.in-Some.is
       c.in_ok-taken.ensures.takes;
-  tells = (refl, c.answer_committed.ensures);
+  answers = (refl, c.answer_committed.ensures);
 }
 
 pub returns-in_err-taken-clause-served : goal.returns-in_err-taken-clause-served
