@@ -25,6 +25,7 @@ use Rattle.s10_ends.specs.Composed.{BatchesLead, turns_in, IsBatch, deliveries_i
 use Rattle.s10_ends.specs.Composed.{ServesAll}
 use Rattle.s10_ends.proofs.Whole.{Served-nil, Served-push, IsOwed-more}
 use Rattle.s10_ends.proofs.Runs.{KeepsPromises-legal}
+use Rattle.s10_ends.proofs.Carried.{Served-issued}
 use Rattle.s10_ends.proofs.Standing.{batch_owes, all_sent}
 
 -- A reply that the committed calls owe to a delivery is owed by more calls too, and to one of more
@@ -261,6 +262,7 @@ module _ {B : Type 0} (faults : B → Faults) (honest : B → Type 0) (terms : B
         same_terms = upto.same_terms;
         served = upto.served;
         kept = KeepsPromises-legal (history new.1) (terms new.1) (legal new.1 h);
+        issued = Served-issued _ _ _ _ _ upto.served;
         stays_committed = upto.stays_committed;
         stands = all_sent (committed new.1) (deliveries_in faults honest terms history committed
             clean may_find old

@@ -9,7 +9,7 @@ use Rattle.s10_book.specs.Book.{Grows}
 use Rattle.s10_ends.specs.declared.answer.Answer.{Answer}
 use Rattle.s10_ends.specs.declared.exchange.Exchange.{Exchange}
 use Rattle.s10_ends.specs.Served.{Dated, Served}
-use Rattle.s10_ends.specs.Runs.{KeepsPromises}
+use Rattle.s10_ends.specs.Runs.{KeepsPromises, IsIssued}
 use Rattle.s10_ends.specs.Stop.{IsFoundAmong}
 use Rattle.s10_ends.specs.Turn.{Turn}
 use Rattle.s10_ends.specs.Batch.{ServesBatch, IsSentCommitted, IsOwedReply}
@@ -55,14 +55,15 @@ module _ {B : Type 0} (faults : B → Faults) (honest : B → Type 0) (terms : B
 
   -- Batches with these deliveries, answers and turns led from one book to the other. The history is
   -- what each distinct request once, in order of first arrival, gives, and keeps its promises.
-  -- Committed calls stay committed. Every reply that was sent is one that the committed calls give,
-  -- and one that they owe to a delivery.
+  -- Every identifier in a reply was issued to its request. Committed calls stay committed. Every
+  -- reply that was sent is one that the committed calls give, and one that they owe to a delivery.
   pub record ServesAll (old new : B) (deliveries : List Dated) (answers : List Answer)
       (turns : List Turn) : Type 0 where
     pub was_honest : honest old
     pub same_terms : terms new ≡ terms old
     pub served : Served (history old) (terms old) deliveries answers (history new)
     pub kept : KeepsPromises (history new) (terms new)
+    pub issued : All (IsIssued (history new)) answers
     pub stays_committed : Grows (committed old) (committed new)
     pub stands : All (IsSentCommitted (committed new)) turns
     pub owed : All (IsOwedReply (committed new) deliveries) turns
