@@ -20,7 +20,9 @@ use Rattle.s10_jobs.specs.declared.job_status.JobStatus.{JobStatus}
 use Rattle.s10_jobs.specs.declared.job_status.JobStatus.TheVariants.{Done, Failed}
 use Rattle.s10_jobs.specs.TurnLines.{turn_line}
 use Rattle.s10_ends.specs.Composed.{IsDay, BatchesLead, IsBatch, turns_in}
+use Rattle.s10_book.specs.Book.{Grows}
 use Rattle.s10_ends.proofs.Composing.{all_composed}
+use Rattle.s10_ends.proofs.Stops.{survived}
 use Rattle.s10_jobs.specs.Serving.{PrintsBatch, Serves, ServesTurns}
 
 lead_more : {S : Type 0} (IsStep : S → List Turn → S → Type 0) (old : S)
@@ -153,18 +155,25 @@ served_to_no_day IsStep old new held before now done count (Err fault) served fe
       shows = tt;
     }
 
--- Batches one after another give what one run gives.
+-- Batches one after another give what one run gives, and survive a stop.
 pub as_one : {B : Type 0} (faults : B → Faults) (honest : B → Type 0) (terms : B → Terms)
     (history committed : B → List Entry) (clean : B → Type 0)
     (may_find : B → Option (List Entry) → Type 0)
     → ((book : B) → honest book → IsLegal (history book) (terms book))
+    → ((book : B) → honest book → Grows (committed book) (history book))
+    → ((book : B) → honest book → (found : Option (List Entry)) → may_find book found
+    → found ≡ Some (committed book))
     → (given : Option ℕ) (old new : Trace × B) (held now : Option (List ℕ)) (count : ℕ)
     (result : Result JobStatus WriteFault)
-    → Serves (IsBatch faults honest terms history committed clean may_find given) old new held now count result
-    → ServesTurns faults honest terms history committed clean may_find given old new held now count result
-as_one faults honest terms history committed clean may_find legal given old new held now count result serves =
-    record {
-      serves = serves;
-      composed = all_composed faults honest terms history committed clean may_find given legal old new
-          serves.batches serves.lead;
-    }
+    → Serves (IsBatch faults honest terms history committed clean may_find given) old new held now
+    count result
+    → ServesTurns faults honest terms history committed clean may_find given old new held now count
+    result
+as_one faults honest terms history committed clean may_find legal first found given old new held
+    now count result serves = record {
+  serves = serves;
+  composed = all_composed faults honest terms history committed clean may_find given legal old new
+      serves.batches serves.lead;
+  survives = survived faults honest terms history committed clean may_find given legal first found
+      old new;
+}

@@ -9,7 +9,7 @@ use Rattle.s10_history.specs.Settings.{Terms}
 use Rattle.s10_book.specs.declared.faults.Faults.{Faults}
 use Rattle.s10_ends.specs.Turn.{Turn}
 use Rattle.s10_ends.specs.Composed.{BatchesLead, turns_in, IsBatch, deliveries_in, answers_in}
-use Rattle.s10_ends.specs.Composed.{ServesAll}
+use Rattle.s10_ends.specs.Composed.{ServesAll, SurvivesStop}
 use Rattle.s10_jobs.specs.declared.job_status.JobStatus.{JobStatus}
 use Rattle.s10_jobs.specs.declared.job_status.JobStatus.TheVariants.{Done, Refused, CommandLine}
 use Rattle.s10_jobs.specs.declared.job_status.JobStatus.TheVariants.{Failed}
@@ -46,13 +46,19 @@ module _ {B : Type 0} (faults : B → Faults) (honest : B → Type 0) (terms : B
     (history committed : B → List Entry) (clean : B → Type 0)
     (may_find : B → Option (List Entry) → Type 0) where
   -- At most `count` turns of a server, in batches on the given day. If the book is honest after
-  -- them, they give what one run over all their datagrams gives.
+  -- them, they give what one run over all their datagrams gives. After a stop at any moment an
+  -- opening finds every call whose reply was sent.
   pub record ServesTurns (given : Option ℕ) (old new : Trace × B) (held now : Option (List ℕ))
       (count : ℕ) (result : Result JobStatus WriteFault) : Type 0 where
-    pub serves : Serves (IsBatch faults honest terms history committed clean may_find given) old new held now
+    pub serves : Serves (IsBatch faults honest terms history committed clean may_find given) old new
+        held now
         count result
-    pub composed : honest new.1 → ServesAll faults honest terms history committed clean may_find old.1 new.1
-        (deliveries_in faults honest terms history committed clean may_find old new serves.batches given
+    pub composed : honest new.1 → ServesAll faults honest terms history committed clean may_find
+        old.1 new.1
+        (deliveries_in faults honest terms history committed clean may_find old new serves.batches
+            given
         serves.lead)
-        (answers_in faults honest terms history committed clean may_find old new serves.batches given serves.lead)
+        (answers_in faults honest terms history committed clean may_find old new serves.batches
+            given serves.lead)
         (turns_in serves.batches)
+    pub survives : SurvivesStop faults honest terms history committed clean may_find given old new

@@ -48,7 +48,8 @@ pub fn serve_turns<R: Clock + Eprint, B: GroupCommit, L: Link, W: Write>(
     day: Option<u32>,
     out: &mut W,
 ) -> Result<JobStatus, WriteFault>
-    ensures turns { ServesTurns B.faults B.honest B.terms B.history B.committed B.clean B.may_find day
+    ensures turns { ServesTurns B.faults B.honest B.terms B.history B.committed B.clean B.may_find
+        day
         (L.trace_of link.old, book_of server.old) (L.trace_of link.new, book_of server.new)
         (W.contents out.old) (W.contents out.new) count result }
     ensures given { day ≢ None → result ≢ Ok JobStatus.Failed }
