@@ -20,7 +20,7 @@ use Rattle.s10_ends.specs.UdpLink.{BoundLink}
 use Rattle.s10_history.specs.Settings.{Terms}
 use Rattle.s10_book.specs.declared.book_fault.BookFault.{BookFault}
 use Rattle.s10_book.specs.Book.{Unchanged}
-use Rattle.s10_ledger.specs.Ledger.{IsHonest, history_of, committed_of}
+use Rattle.s10_ledger.specs.Ledger.{IsOverCleanDisk, MayFind, IsHonest, history_of, committed_of}
 use Rattle.s10_rows.specs.declared.open_fault.OpenFault.{OpenFault}
 use Rattle.s10_rows.specs.declared.open_fault.OpenFault.TheVariants.{Store}
 use Rattle.s10_jobs.specs.declared.job_status.JobStatus.{JobStatus}
@@ -48,7 +48,6 @@ use Rattle.s10_host.specs.declared.ledger_job.LedgerJob.{LedgerJob}
 use Rattle.s10_host.specs.declared.ledger_job.LedgerJob.TheVariants.{BookJob as AsksFor, Audit}
 use Rattle.s10_host.specs.BookJobs.{IsBookJobRefusal, EndsOver, EndsIn}
 use Rattle.s10_host.proofs.Opening.{empty_book, found_book, closed_into, still_none, calls_all}
-use Rattle.s10_host.proofs.Backwards.{before_batches}
 
 -- A job over a ledger has one job on the book.
 pub asked_alike : (task : LedgerJob) (work same : BookJob) → task ≡ AsksFor work
@@ -249,10 +248,7 @@ module _ (S : RattleType) (first : Ghosts S.Denot) where
       (opened after : FileLedger S first) (result : Result JobStatus WriteFault) (link : BoundLink)
       → Turns over_files day count opened after old new result link → IsHonest over_files after
       → IsHonest over_files opened
-  was_honest day count old new opened after result link turns =
-      before_batches (λ (b : FileLedger S first). b.faults) (IsHonest over_files) (λ b. b.terms)
-      (history_of over_files) (committed_of over_files) (IsCleanLedger over_files) (MayFind over_files) day
-      (new_trace, opened) (link.trace, after) turns.serves.batches turns.serves.lead
+  was_honest day count old new opened after result link turns h = (turns.composed h).was_honest
 
   -- Which calls the files of a served ledger hold.
   ends_served : (served : FileLedger S first) (closed : FileConnection S first)
@@ -463,7 +459,8 @@ module _ (S : RattleType) (first : Ghosts S.Denot) where
       (files : Option (ClosedFiles S first)) → opened.pending ≡ []
       → Unchanged (λ (b : FileLedger S first). history_of over_files b)
       (λ (b : FileLedger S first). committed_of over_files b) (λ b. b.terms)
-      (IsHonest over_files) opened after → Writes S first report opened after old new done
+      (IsHonest over_files) (IsOverCleanDisk over_files) (MayFind over_files) opened after → Writes
+          S first report opened after old new done
       → IsClosedAs over_files after closed committed
       → IfSome files (λ f. Copies closed f × EndsAs committed done new last result)
       → IfSome files (IsReported S first opened report old last result)

@@ -14,7 +14,8 @@ use Rattle.s10_link.specs.Link.{LeadsTo}
 use Rattle.s10_link.specs.Trace.{new_trace}
 use Rattle.s10_history.specs.declared.entry.Entry.{Entry}
 use Rattle.s10_history.specs.Settings.{Terms}
-use Rattle.s10_ledger.specs.Ledger.{Ledger, IsHonest, history_in, history_of, committed_of}
+use Rattle.s10_ledger.specs.Ledger.{IsOverCleanDisk, MayFind, Ledger, IsHonest, history_in}
+use Rattle.s10_ledger.specs.Ledger.{history_of, committed_of}
 use Rattle.s10_ends.specs.UdpLink.{BoundLink}
 use Rattle.s10_ends.specs.Server.{book_of}
 use Rattle.s10_ends.specs.NearLink.{ServedOn}
@@ -32,10 +33,12 @@ served_over : (day : ℕ) (begun ended : LoopLink) → IsNewLoop day begun
     → ServedOn day [] loop_terms (history_of over_memory (book_of ended.server))
 served_over day begun ended fresh led honest =
     let on : LedOn (λ (b : Ledger MemStore). b.faults) (IsHonest over_memory) (λ b. b.terms)
-    (history_of over_memory) (committed_of over_memory) (IsCleanLedger over_memory) (MayFind over_memory) (λ (l : BoundLink). l.trace)
+    (history_of over_memory) (committed_of over_memory) (IsOverCleanDisk over_memory) (MayFind
+        over_memory) (λ (l : BoundLink). l.trace)
     (λ (l : BoundLink). l.trace) begun.day (book_of begun.server) (book_of ended.server) =
     near_led (λ (b : Ledger MemStore). b.faults) (IsHonest over_memory) (λ b. b.terms)
-    (history_of over_memory) (committed_of over_memory) (IsCleanLedger over_memory) (MayFind over_memory) (λ (l : BoundLink). l.trace)
+    (history_of over_memory) (committed_of over_memory) (IsOverCleanDisk over_memory) (MayFind
+        over_memory) (λ (l : BoundLink). l.trace)
     (λ (l : BoundLink). l.trace) begun ended led in
     let last : List Entry = history_of over_memory (book_of ended.server) in
     subst (λ (d : ℕ). ServedOn d [] loop_terms last) fresh.on_day
@@ -59,10 +62,12 @@ none_left day begun ended fresh led honest =
     let first : Ledger MemStore = book_of begun.server in
     let last : Ledger MemStore = book_of ended.server in
     let whole : Whole (λ (b : Ledger MemStore). b.faults) (IsHonest over_memory) (λ b. b.terms)
-    (history_of over_memory) (committed_of over_memory) (IsCleanLedger over_memory) (MayFind over_memory) (λ (l : BoundLink). l.trace)
+    (history_of over_memory) (committed_of over_memory) (IsOverCleanDisk over_memory) (MayFind
+        over_memory) (λ (l : BoundLink). l.trace)
     (λ (l : BoundLink). l.trace) last =
     near_whole (λ (b : Ledger MemStore). b.faults) (IsHonest over_memory) (λ b. b.terms)
-    (history_of over_memory) (committed_of over_memory) (IsCleanLedger over_memory) (MayFind over_memory) (λ (l : BoundLink). l.trace)
+    (history_of over_memory) (committed_of over_memory) (IsOverCleanDisk over_memory) (MayFind
+        over_memory) (λ (l : BoundLink). l.trace)
     (λ (l : BoundLink). l.trace) begun ended led
     (λ h. of_none (committed_of over_memory first) first.pending fresh.empty) in
     all_of (committed_of over_memory last) last.pending (whole honest)

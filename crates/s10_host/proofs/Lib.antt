@@ -2,5 +2,4 @@ mod Auditing
 mod MemoryLedger
 mod Leaving
 mod Opening
-mod Backwards
 mod Ending

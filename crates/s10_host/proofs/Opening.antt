@@ -21,7 +21,8 @@ use Rattle.sqlite.specs.Closing.{IsCopied}
 use Rattle.s10_history.specs.declared.entry.Entry.{Entry}
 use Rattle.s10_history.specs.Settings.{Terms}
 use Rattle.s10_history.specs.History.{day_of}
-use Rattle.s10_ledger.specs.Ledger.{Ledger, IsLedger, IsAnyLedger, IsHonest, history_in}
+use Rattle.s10_ledger.specs.Ledger.{IsOverCleanDisk, MayFind, Ledger, IsLedger, IsAnyLedger}
+use Rattle.s10_ledger.specs.Ledger.{IsHonest, history_in}
 use Rattle.s10_ledger.specs.Ledger.{history_of}
 use Rattle.s10_ledger.specs.Ledger.{committed_of}
 use Rattle.s10_host.specs.Files.{IsFoundIn, WhereClean, IsEmptyBook, IsFoundBook, Copies}
@@ -121,7 +122,7 @@ pub worked_with : {S : Type 0} (g : store.Ghosts S) (work : BookJob) (was : Held
     × IfSome link (Turns g day count book after old new done))
     → ((report : Report) → work ≡ ReportOn report → (link ≡ None)
     × Unchanged (λ (b : Ledger S). history_of g b) (λ (b : Ledger S). committed_of g b)
-    (λ (b : Ledger S). b.terms) (IsHonest g) book after
+    (λ (b : Ledger S). b.terms) (IsHonest g) (IsOverCleanDisk g) (MayFind g) book after
     × (IsHonest g after
     → IfOk done (PrintsReport book.faults after.faults old new
     (report_lines report (history_of g book) book.terms))))
@@ -151,7 +152,7 @@ nothing_left xs ys zs is = nil_from_length zs (omega (
 -- No call is pending after a call that leaves the history unchanged, if none was before.
 pub still_none : {S : Type 0} (g : store.Ghosts S) (opened after : Ledger S) → opened.pending ≡ []
     → Unchanged (λ (b : Ledger S). history_of g b) (λ (b : Ledger S). committed_of g b)
-    (λ (b : Ledger S). b.terms) (IsHonest g) opened after
+    (λ (b : Ledger S). b.terms) (IsHonest g) (IsOverCleanDisk g) (MayFind g) opened after
     → IsHonest g after → after.pending ≡ []
 still_none g opened after none unchanged honest =
     let grew = unchanged.stays_committed honest in

@@ -20,7 +20,8 @@ use Rattle.s10_rows.specs.declared.open_fault.OpenFault.{OpenFault}
 use Rattle.s10_schema.specs.Schema.{IsClosedSchema}
 use Rattle.s10_statements.specs.ConnectionState.{IsClean, IsOpen, WasSound}
 use Rattle.s10_statements.specs.Creating.{IsCreateRefusal}
-use Rattle.s10_ledger.specs.Ledger.{Ledger, IsAnyLedger, IsHonest, history_in, history_of}
+use Rattle.s10_ledger.specs.Ledger.{IsOverCleanDisk, MayFind, Ledger, IsAnyLedger, IsHonest}
+use Rattle.s10_ledger.specs.Ledger.{history_in, history_of}
 use Rattle.s10_ledger.specs.Ledger.{committed_of}
 use Rattle.s10_ledger.specs.Refusals.{IsOpeningRefusal}
 use Rattle.s10_jobs.specs.declared.job_status.JobStatus.{JobStatus}
@@ -58,9 +59,9 @@ module _ {S : Type 0} (g : Ghosts S) where
   abbrev pub HasBeenServed : ℕ → Option ℕ → Held S → Option (List ℕ) → Option (List ℕ)
       → Result JobStatus WriteFault → Option BoundLink → Held S → Result (Unit {0}) BookFault
       → Type 0
-  HasBeenServed count day was old new done link closed kept =
+  HasBeenServed count day was old new done link closed commit_result =
       (opened : Ledger S) × IsOpenedFrom was opened × (served : Ledger S)
-      × IsClosedAs g served closed kept
+      × IsClosedAs g served closed commit_result
       × (link ≡ None → IsUnbound opened served old new done)
       × IfSome link (Turns g day count opened served old new done)
 
@@ -69,16 +70,17 @@ module _ {S : Type 0} (g : Ghosts S) where
   abbrev pub HasRunBookJob : BookJob → Held S → Option (List ℕ) → Option (List ℕ)
       → Result JobStatus WriteFault → Option BoundLink → Held S → Result (Unit {0}) BookFault
       → Type 0
-  HasRunBookJob (Create terms) was old new done link closed kept =
-      (book : Ledger S) × IsMadeWith terms book × IsClosedAs g book closed kept × (done ≡ Ok Done)
+  HasRunBookJob (Create terms) was old new done link closed commit_result =
+      (book : Ledger S) × IsMadeWith terms book × IsClosedAs g book closed commit_result × (done ≡
+          Ok Done)
       × (new ≡ old) × (link ≡ None)
-  HasRunBookJob (Serve at count day) was old new done link closed kept =
-      HasBeenServed count day was old new done link closed kept
-  HasRunBookJob (Report report) was old new done link closed kept =
+  HasRunBookJob (Serve at count day) was old new done link closed commit_result =
+      HasBeenServed count day was old new done link closed commit_result
+  HasRunBookJob (Report report) was old new done link closed commit_result =
       (opened : Ledger S) × IsOpenedFrom was opened × (reported : Ledger S)
-      × IsClosedAs g reported closed kept
+      × IsClosedAs g reported closed commit_result
       × Unchanged (λ (b : Ledger S). history_of g b) (λ (b : Ledger S). committed_of g b)
-      (λ (b : Ledger S). b.terms) (IsHonest g) opened reported
+      (λ (b : Ledger S). b.terms) (IsHonest g) (IsOverCleanDisk g) (MayFind g) opened reported
       × (IsHonest g reported
       → IfOk done (PrintsReport opened.faults reported.faults old new
       (report_lines report (history_of g opened) opened.terms)))

@@ -7,33 +7,37 @@ use Rattle.s10_link.specs.Trace.{new_trace}
 use Rattle.s10_ends.specs.UdpLink.{BoundLink}
 use Rattle.s10_history.specs.History.{day_of}
 use Rattle.s10_book.specs.declared.book_fault.BookFault.{BookFault}
-use Rattle.s10_ledger.specs.Ledger.{Ledger, IsLedger, IsHonest, history_in, history_of}
+use Rattle.s10_ledger.specs.Ledger.{IsOverCleanDisk, MayFind, Ledger, IsLedger, IsHonest}
+use Rattle.s10_ledger.specs.Ledger.{history_in, history_of}
 use Rattle.s10_ledger.specs.Ledger.{committed_of}
 use Rattle.s10_statements.specs.ConnectionState.{IsClean, IsOpen}
 use Rattle.s10_jobs.specs.declared.job_status.JobStatus.{JobStatus}
 use Rattle.s10_jobs.specs.Serving.{ServesTurns}
 
 module _ {S : Type 0} (g : Ghosts S) where
-  -- The ledger was closed with this connection, and `kept` says whether all calls were committed.
+  -- The ledger was closed with this connection. The result says whether all calls were committed.
   -- If the disk is clean and the connection open, what it shows is committed and is the ledger of
   -- the committed calls. If no call was pending, the connection is unchanged.
   pub record IsClosedAs (book : Ledger S) (closed : Held S)
-      (kept : Result (Unit {0}) BookFault) : Type 0 where
+      (commit_result : Result (Unit {0}) BookFault) : Type 0 where
     pub committed : IsClean g closed → IsOpen g closed → (state g closed).committed
         ≡ (state g closed).now
     pub ledger : IsClean g closed → IsOpen g closed → let db = (state g closed).now in
         IsLedger db book.terms (length (history_in db)) (day_of (history_in db))
     pub honest : IsClean g closed → IsOpen g closed → IsHonest g book
-    pub whole : IsClean g closed → IsOpen g closed → OnOk kept (history_in (state g closed).now
+    pub whole : IsClean g closed → IsOpen g closed → OnOk commit_result (history_in (state g
+        closed).now
         ≡ history_of g book)
-    pub left : IsClean g closed → IsOpen g closed → OnErr kept (history_in (state g closed).now
+    pub left : IsClean g closed → IsOpen g closed → OnErr commit_result (history_in (state g
+        closed).now
         ≡ committed_of g book)
     pub same : book.pending ≡ [] → closed ≡ book.conn
-    pub none_pending : book.pending ≡ [] → OnErr kept ⊥
+    pub none_pending : book.pending ≡ [] → OnErr commit_result ⊥
 
   -- The turns on a new link, and their lines.
   abbrev pub Turns : Option ℕ → ℕ → Ledger S → Ledger S → Option (List ℕ) → Option (List ℕ)
       → Result JobStatus WriteFault → BoundLink → Type 0
   Turns day count opened served old new result link =
       ServesTurns (λ (b : Ledger S). b.faults) (IsHonest g) (λ b. b.terms) (history_of g)
-      (committed_of g) (IsCleanLedger g) (MayFind g) day (new_trace, opened) (link.trace, served) old new count result
+      (committed_of g) (IsOverCleanDisk g) (MayFind g) day (new_trace, opened) (link.trace, served)
+          old new count result

@@ -12,7 +12,7 @@ use Rattle.s10_lines.specs.Lines.{line_of}
 use Rattle.s10_history.specs.Settings.{Terms}
 use Rattle.s10_book.specs.declared.book_fault.BookFault.{BookFault}
 use Rattle.s10_book.specs.Book.{Unchanged}
-use Rattle.s10_ledger.specs.Ledger.{IsHonest, history_of, committed_of}
+use Rattle.s10_ledger.specs.Ledger.{IsOverCleanDisk, MayFind, IsHonest, history_of, committed_of}
 use Rattle.s10_rows.specs.declared.open_fault.OpenFault.{OpenFault}
 use Rattle.s10_rows.specs.declared.open_fault.OpenFault.TheVariants.{Store}
 use Rattle.s10_jobs.specs.declared.job_status.JobStatus.{JobStatus}
@@ -46,14 +46,15 @@ abbrev pub FailsByLedger : (OpenFault → Type 0) → Option (List ℕ) → Opti
 FailsByLedger IsFault old new status = (status ≡ Failed) × (fault : OpenFault) × IsFault fault
     × Appends old new (ledger_line fault)
 
--- The job was done, and then the ledger could not be closed.
+-- The job was done, and then the ledger could not be closed, or its pending calls could not be
+-- committed.
 abbrev pub FailsByClosing : Result JobStatus WriteFault → Option (List ℕ) → Option (List ℕ)
     → Result JobStatus WriteFault → Type 0
 FailsByClosing done between new result =
     IfOk result (λ status. IsOk done × FailsByLedger (λ fault. fault ≡ Store) between new status)
 
--- A job ends as it was done if all calls are committed; otherwise the line says that the ledger
--- could not be closed. The calls that are not committed got no reply.
+-- A job ends as it was done if all calls are committed. Otherwise the line `ledger store` says that
+-- they are not.
 abbrev pub EndsAs : Result (Unit {0}) BookFault → Result JobStatus WriteFault → Option (List ℕ)
     → Option (List ℕ) → Result JobStatus WriteFault → Type 0
 EndsAs (Ok _) done between new result = (result ≡ done) × (new ≡ between)
@@ -178,6 +179,7 @@ module _ (S : RattleType) (first : Ghosts S.Denot) where
     pub written : Writes report opened reported old new result
     pub unchanged : Unchanged (λ (b : FileLedger S first). history_of over_files b)
         (λ (b : FileLedger S first). committed_of over_files b) (λ b. b.terms) (IsHonest over_files)
+            (IsOverCleanDisk over_files) (MayFind over_files)
         opened reported
     pub closes_into : ClosesInto reported (history_of over_files reported) files
 

@@ -10,7 +10,8 @@ use Rattle.s10_link.specs.declared.peer.Peer.{Peer}
 use Rattle.s10_link.specs.Trace.{new_trace}
 use Rattle.s10_link.specs.Link.{LeadsTo}
 use Rattle.s10_history.specs.Settings.{Terms}
-use Rattle.s10_ledger.specs.Ledger.{Ledger, IsHonest, history_in, history_of, committed_of}
+use Rattle.s10_ledger.specs.Ledger.{IsOverCleanDisk, MayFind, Ledger, IsHonest, history_in}
+use Rattle.s10_ledger.specs.Ledger.{history_of, committed_of}
 use Rattle.s10_ends.specs.UdpLink.{BoundLink}
 use Rattle.s10_ends.specs.NearEnds.{NearEnds}
 use Rattle.s10_ends.specs.Server.{book_of}
@@ -41,7 +42,8 @@ loop_terms = record { interval = 30; limit = 100 }
 -- How a call changes the link of a loop.
 abbrev pub IsLoopStep : LoopLink → LoopLink → Type 0
 IsLoopStep = IsNearStep (λ (b : Ledger MemStore). b.faults) (IsHonest over_memory) (λ b. b.terms)
-    (history_of over_memory) (committed_of over_memory) (IsCleanLedger over_memory) (MayFind over_memory) (λ (l : BoundLink). l.trace)
+    (history_of over_memory) (committed_of over_memory) (IsOverCleanDisk over_memory) (MayFind
+        over_memory) (λ (l : BoundLink). l.trace)
     (λ (l : BoundLink). l.trace)
 
 -- A new loop: its links carried nothing, and its ledger is empty.

@@ -174,3 +174,22 @@ fn no_reply_is_sent_before_its_call_is_committed(rt: HostRuntime) {
 fn a_committed_call_gets_its_reply_while_another_is_pending(rt: HostRuntime) {
     wait_once(&rt, SECOND, FIRST);
 }
+
+// Handles a request whose call stays pending, then serves a batch over a repeat of a committed
+// call. Returns whether the batch replies, and whether the pending call is committed then.
+fn replies_while_pending<R: Abort + AllocGlobal>(rt: &R) -> (bool, bool) {
+    let mut server = Server::new(committed(Batched::new(ledger(rt, settings(rt, 1000)))));
+    let _ = server.handle(SECOND.request, 20_000);
+    let ended = match link(rt.alloc(), (FIRST, FIRST)) {
+        Ok(mut link) => ends(rt.alloc(), &mut server, &mut link, (FIRST, FIRST), true, false),
+        Err(_) => false,
+    };
+    let is_committed = server.is_committed(SECOND.request);
+    let _ = closed(server.into_book().into_inner());
+    (ended, is_committed)
+}
+
+#[test]
+fn a_repeat_of_a_committed_call_needs_no_commit(rt: HostRuntime) {
+    same(&rt, &"batch", &replies_while_pending(&rt), &(true, false));
+}

@@ -185,13 +185,13 @@ fn a_pending_call_is_found(rt: HostRuntime) {
 
 /// What is reported for a commit: which of four calls are committed before it, its result, which
 /// are committed after it, and the number of calls of the book then.
-pub(crate) type Told = ([bool; 4], Result<(), BookFault>, [bool; 4], u32);
+pub(crate) type CommitReport = ([bool; 4], Result<(), BookFault>, [bool; 4], u32);
 
 /// The commit succeeds, and the third call is committed.
-pub(crate) const COMMITTED: Told = ([true, true, false, true], Ok(()), [true; 4], 5);
+pub(crate) const COMMITTED: CommitReport = ([true, true, false, true], Ok(()), [true; 4], 5);
 
 /// The commit fails, and the third call stays pending.
-pub(crate) const UNCOMMITTED: Told = (
+pub(crate) const UNCOMMITTED: CommitReport = (
     [true, true, false, true],
     Err(BookFault::Store),
     [true, true, false, true],
@@ -221,7 +221,7 @@ fn appends_three<B: GroupCommit>(book: &mut Batched<B>) -> bool {
 
 /// Commits three Draws after two committed calls, and returns what is reported, or `None` if the
 /// book does not append them.
-fn commits_three<B: GroupCommit>(book: &mut Batched<B>) -> Option<Told> {
+fn commits_three<B: GroupCommit>(book: &mut Batched<B>) -> Option<CommitReport> {
     if !appends_three(book) {
         return None;
     }
@@ -236,15 +236,15 @@ pub(crate) fn commits_three_in<S: Alter>(
     alloc: Global,
     settings: Settings,
     conn: Connection<S>,
-) -> (Option<Told>, Connection<S>) {
+) -> (Option<CommitReport>, Connection<S>) {
     if !conn.is_autocommit() {
         return (None, conn);
     }
     match SqlBook::create(alloc, conn, settings, &mut NoObserver) {
         Ok(book) => {
             let mut book = Batched::new(book);
-            let told = commits_three(&mut book);
-            (told, closed(book.into_inner()))
+            let report = commits_three(&mut book);
+            (report, closed(book.into_inner()))
         }
         Err(
             Refused {
@@ -288,10 +288,10 @@ fn kept_of_five<B: Book>(book: &mut B) -> u32 {
 }
 
 /// Commits three Draws in a new ledger in memory, and returns what is reported.
-fn reported_in_memory(alloc: Global, settings: Settings) -> Option<Told> {
+fn reported_in_memory(alloc: Global, settings: Settings) -> Option<CommitReport> {
     let conn = Connection::open_in_memory(alloc).ok()?;
-    let (told, _conn) = commits_three_in(alloc, settings, conn);
-    told
+    let (report, _conn) = commits_three_in(alloc, settings, conn);
+    report
 }
 
 #[test]

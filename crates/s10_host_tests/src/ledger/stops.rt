@@ -3,7 +3,7 @@
 
 use crate::expect::same;
 use crate::ledger::calls::{closed, settings};
-use crate::ledger::committing::{COMMITTED, Told, UNCOMMITTED, commits_three_in, keeps_five_in};
+use crate::ledger::committing::{COMMITTED, CommitReport, UNCOMMITTED, commits_three_in, keeps_five_in};
 use crate::ledger::tables::{OLD_LEDGER, run_batches};
 use s10_book::Book;
 use s10_history::Settings;
@@ -64,7 +64,7 @@ enum Report {
     /// The ledger is not created, or no call is executed.
     Nothing,
     /// The report of a commit.
-    Committed(Told),
+    Committed(CommitReport),
     /// The number of calls that were kept.
     Kept(u32),
 }
@@ -134,9 +134,9 @@ fn done<S: Alter + Drop>(conn: Connection<S>, act: &Act) -> (Ended, Report, S) {
             (ended, Report::Nothing, conn.into_store())
         }
         Act::Commit(alloc, settings) => {
-            let (told, conn) = commits_three_in(*alloc, *settings, conn);
-            let report = match told {
-                Some(told) => Report::Committed(told),
+            let (committed, conn) = commits_three_in(*alloc, *settings, conn);
+            let report = match committed {
+                Some(report) => Report::Committed(report),
                 None => Report::Nothing,
             };
             (Ended::Unconnected, report, conn.into_store())
@@ -290,8 +290,8 @@ fn done_until(alloc: Global, act: &Act, stops: Stops) -> Option<(Report, Ended)>
 fn stands(report: Report, ended: Ended) -> Option<bool> {
     match (report, ended) {
         (Report::Nothing, _) => Some(true),
-        (Report::Committed(told), Ended::Found(5)) if told == COMMITTED => None,
-        (Report::Committed(told), Ended::Found(2 | 5)) => Some(told == UNCOMMITTED),
+        (Report::Committed(report), Ended::Found(5)) if report == COMMITTED => None,
+        (Report::Committed(report), Ended::Found(2 | 5)) => Some(report == UNCOMMITTED),
         (Report::Kept(5), Ended::Found(5)) => None,
         (Report::Kept(kept), Ended::Found(found)) => {
             Some(kept < 5 && (found == kept || found == kept + 1))

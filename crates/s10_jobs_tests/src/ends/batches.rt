@@ -59,12 +59,12 @@ const FOUR_REPLIES: &'static [Sent] = &[
 ];
 
 /// Returns whether the turns end as expected, in order.
-fn end_as_expected(turns: &[Turn], told: &[Ends]) -> bool {
-    if turns.len() != told.len() {
+fn end_as_expected(turns: &[Turn], expected: &[Ends]) -> bool {
+    if turns.len() != expected.len() {
         return false;
     }
     for at in 0..turns.len() {
-        if !is_expected_turn(&turns[at], &told[at]) {
+        if !is_expected_turn(&turns[at], &expected[at]) {
             return false;
         }
     }
@@ -78,12 +78,12 @@ fn serves<B: GroupCommit>(
     link: &mut ScriptLink,
     batch: &Batch,
 ) -> bool {
-    let (most, told, sent) = *batch;
+    let (most, expected, sent) = *batch;
     if most < 1 {
         return false;
     }
     match serve_batch(alloc, server, link, 20_000, most) {
-        Ok(turns) => end_as_expected(&turns, told) && link.log().len() == sent,
+        Ok(turns) => end_as_expected(&turns, expected) && link.log().len() == sent,
         Err(_) => false,
     }
 }
@@ -290,15 +290,14 @@ fn faulted_batches(alloc: Global) -> u64 {
     faulted
 }
 
-// A book in memory commits each call when it keeps it. After its calls for the two Draws come the
-// commit of the batch and the commit after it. Both replies are sent even if one of these commits
-// fails.
+// A book in memory commits each call when it keeps it, so the batch needs no commit of its own: the
+// first call of the book after those for the two Draws is the commit after the batch.
 #[test]
-fn replies_to_committed_calls_are_sent_even_if_a_commit_fails(rt: HostRuntime) {
+fn a_batch_whose_calls_are_committed_tries_no_commit(rt: HostRuntime) {
     let own = faulted_batches(rt.alloc());
     let next = own.saturating_add(1);
-    assert!(rt; served_then_committed(rt.alloc(), own) == (true, None));
-    assert!(rt; served_then_committed(rt.alloc(), next) == (true, Some(BookFault::Store)));
+    assert!(rt; served_then_committed(rt.alloc(), own) == (true, Some(BookFault::Store)));
+    assert!(rt; served_then_committed(rt.alloc(), next) == (true, None));
 }
 
 /// Two datagrams that ask nothing, then no datagram.
