@@ -1,15 +1,17 @@
 -- What a read leaves of a ledger, and what it returns.
 use Rattle.std.proofs.Common.{◌≡◌, ℕ, Bool, true, IsTrue, ◌++◌, Result, Ok, Err, IfOk, OnOk, ap}
-use Rattle.std.proofs.Common.{subst, refl, arith, length}
+use Rattle.std.proofs.Common.{List, subst, refl, sym, ◌∙◌, arith, length}
 use Rattle.std.specs.Result.{is_ok}
 use Rattle.std.proofs.Math.Logic.{∥∥₁_elim, ∥∥₁_map}
+use Rattle.sqlite_trees.specs.Tree.{Trees}
 use Rattle.sqlite_trees.specs.declared.store.Store.{Ghosts}
 use Rattle.sqlite.specs.Effect.{Database}
 use Rattle.sqlite.specs.State.{HasCleanDisk}
 use Rattle.sqlite.specs.Held.{Held, state}
-use Rattle.s10_book.specs.Rules.{IsLegal}
+use Rattle.s10_book.specs.Rules.{IsLegal, MayFollow}
 use Rattle.s10_book.specs.Book.{Unchanged}
 use Rattle.s10_book.specs.declared.faults.Faults.{Faults}
+use Rattle.s10_history.specs.declared.entry.Entry.{Entry}
 use Rattle.s10_history.specs.Settings.{Terms}
 use Rattle.s10_history.specs.History.{day_of}
 use Rattle.s10_schema.specs.Schema.{IsLedgerSchema, IsClosedSchema}
@@ -17,7 +19,7 @@ use Rattle.s10_statements.specs.ConnectionState.{IsQuiescent}
 use Rattle.s10_statements.specs.Statements.{LeavesTables}
 use Rattle.s10_book.proofs.Calls.{grows_same}
 use Rattle.s10_ledger.specs.Ledger.{Ledger, IsLedger, IsHonest, history_in, history_of}
-use Rattle.s10_ledger.specs.Ledger.{committed_of}
+use Rattle.s10_ledger.specs.Ledger.{committed_of, IsCommittedIn}
 use Rattle.s10_statements.proofs.Apart.{is_ledger-prop, is_closed-prop}
 
 -- What is always true of a ledger's connection.
@@ -94,3 +96,32 @@ ledger_again db t u len day it same = subst (λ (v : Terms). IsLedger db v (leng
         day_is = refl;
       });
     })
+
+-- A call that may follow a book may follow it after a call that leaves it unchanged.
+pub follows_still : {S : Type 0} (g : Ghosts S) (old mid : Ledger S) (e : Entry)
+    → Unchanged (history_of g) (committed_of g) (λ (l : Ledger S). l.terms) (IsHonest g) old mid
+    → (IsHonest g old → MayFollow (history_of g old) old.terms e) → IsHonest g mid
+    → MayFollow (history_of g mid) mid.terms e
+follows_still g old mid e unchanged may honest = rw (
+  unchanged.same_history honest,
+  unchanged.same_terms honest,
+) (may (unchanged.was_honest honest))
+
+-- Two ledgers with the same database, pending calls and settings are committed in the same trees.
+pub committed_again : {S : Type 0} (g : Ghosts S) (old mid : Ledger S) (db : Trees)
+    → (state g mid.conn).now ≡ (state g old.conn).now → mid.pending ≡ old.pending
+    → mid.terms ≡ old.terms → IsCommittedIn g mid db → IsCommittedIn g old db
+committed_again g old mid db now pending terms it =
+    let same : history_of g mid ≡ history_of g old =
+    ap (λ (d : Database). history_in d ++ mid.pending) now
+    ∙ ap (λ (p : List Entry). history_in (state g old.conn).now ++ p) pending in
+    record {
+      history = ap (λ (d : Database). history_in (record d { trees = db })) (sym now) ∙ it.history
+          ∙ same;
+      ledger = subst (λ (d : Database). IsLedger (record d { trees = db }) old.terms
+          (length (history_of g old)) (day_of (history_of g old))) now
+          (subst (λ (h : List Entry). IsLedger (record (state g mid.conn).now { trees = db })
+          old.terms (length h) (day_of h)) same
+          (subst (λ (t : Terms). IsLedger (record (state g mid.conn).now { trees = db }) t
+          (length (history_of g mid)) (day_of (history_of g mid))) terms it.ledger));
+    }

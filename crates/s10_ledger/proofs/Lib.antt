@@ -2,6 +2,7 @@ pub mod Forms
 pub mod Rising
 pub mod HistoryLemmas
 pub mod BookLemmas
+pub mod AskLemmas
 pub mod NewLedger
 pub mod PendingLemmas
 pub mod CommittedLemmas

@@ -163,17 +163,21 @@ pub record IsCommittedIn {S : Type 0} (g : Ghosts S) (l : Ledger S) (db : Trees)
 abbrev pub with_pending : {S : Type 0} → Ledger S → Entry → Ledger S
 with_pending l e = record l { pending = l.pending ++ e ∷ [] }
 
--- After a stop during the call, the trees are those that were committed before it.
-abbrev pub LeavesCommitted : {S : Type 0} → Ghosts S → Ledger S → Held S → Type 0
-LeavesCommitted g old conn = IsHonest g old → HasCleanDisk (state g conn) → (db : Trees)
-    → (state g conn).may_leave db → db ≡ (state g old.conn).now.trees
+-- The connection is open if its disk is clean.
+abbrev pub IsOpenIfClean : {S : Type 0} → Ghosts S → Held S → Type 0
+IsOpenIfClean g conn = HasCleanDisk (state g conn) → IsTrue (state g conn).is_open
 
--- After a stop during the call, the trees are those that were committed before it, or they hold the
--- whole ledger with all its pending calls committed.
+-- What a stop may leave could be left before the call.
+abbrev pub LeavesCommitted : {S : Type 0} → Ghosts S → Held S → Held S → Type 0
+LeavesCommitted g old new = HasCleanDisk (state g new) → (db : Trees) → (state g new).may_leave db
+    → (state g old).may_leave db
+
+-- What a stop may leave could be left before the call, or the ledger was honest and it is the whole
+-- ledger with all its pending calls committed.
 abbrev pub MayCommit : {S : Type 0} → Ghosts S → Ledger S → Ledger S → Held S → Type 0
-MayCommit g old whole conn = IsHonest g old → HasCleanDisk (state g conn) → (db : Trees)
+MayCommit g old whole conn = HasCleanDisk (state g conn) → (db : Trees)
     → (state g conn).may_leave db
-    → (db ≡ (state g old.conn).now.trees) ⊎ IsCommittedIn g whole db
+    → (state g old.conn).may_leave db ⊎ (IsHonest g old × IsCommittedIn g whole db)
 
 -- What a stop may leave could be left before the call, or it is a ledger with no call.
 abbrev pub MayCreate : {S : Type 0} → Ghosts S → Terms → Held S → Held S → Type 0

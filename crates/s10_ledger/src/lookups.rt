@@ -14,25 +14,26 @@ ghost use Rattle.s10_statements.specs.Shown.{StandsFor};
 ghost use Rattle.s10_rows.specs.Selected.{IsCall};
 ghost use Rattle.s10_statements.specs.ConnectionState.{AddsNoCrashState};
 ghost use Rattle.s10_statements.specs.Statements.{LeavesTables};
+ghost use Rattle.s10_ledger.specs.Ledger.{LeavesCommitted};
 
 use crate::faults::fault_of;
 use s10_book::BookFault;
 use s10_history::{Range, Usage};
 use s10_replay::usage_among;
 use s10_rows::pair_number;
-use s10_statements::{all_heads, serials_within};
+use s10_statements::serials_within;
 use sqlite::{Alter, Connection};
 use std::alloc::Global;
 
-// Reads the settings, to see whether the connection answers.
-pub(crate) fn ask<S: Alter>(alloc: Global, conn: &mut Connection<S>) -> Result<(), BookFault>
-    ensures spares { AddsNoCrashState S.Store conn.old conn.new }
+// Compiles a statement, to see whether the connection answers. Runs nothing.
+pub(crate) fn ask<S: Alter>(conn: &mut Connection<S>) -> Result<(), BookFault>
+    ensures spares { LeavesCommitted S.Store conn.old conn.new }
     ensures leaves { LeavesTables S.Store conn.old conn.new }
     ensures opened { HasCleanDisk (state S.Store conn.new)
         → OnOk result (IsTrue (state S.Store conn.new).is_open) }
     ensures fault { result ≢ Err Full }
 {
-    match all_heads(alloc, conn) {
+    match conn.prepare("SELECT one, schema, interval, cap FROM head") {
         Ok(_) => Ok(()),
         Err(error) => Err(fault_of(error)),
     }

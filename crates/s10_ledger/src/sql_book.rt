@@ -310,12 +310,13 @@ impl<S: Alter> SqlBook<S> {
     ghost use Rattle.s10_history.specs.History.{has_key, ranges_of};
     ghost use Rattle.s10_history.specs.Usage.{usage_of};
     ghost use Rattle.s10_book.specs.Rules.{MayFollow};
-    ghost use Rattle.s10_book.specs.Book.{Unchanged};
-    ghost use Rattle.s10_ledger.specs.Ledger.{history_of, committed_of, LeavesCommitted, MayCommit};
+    ghost use Rattle.s10_book.specs.Book.{Grows, Unchanged};
+    ghost use Rattle.s10_ledger.specs.Ledger.{history_of, committed_of, with_pending};
+    ghost use Rattle.s10_ledger.specs.Ledger.{IsOpenIfClean, LeavesCommitted, MayCommit};
     ghost use Rattle.s10_statements.specs.ConnectionState.{StaysUnclean};
 
-    // Reads the settings if the connection did not answer the last statement, so that nothing is
-    // returned over a closed connection.
+    // Asks the connection if it did not answer the last statement, so that no statement runs over a
+    // closed connection, and nothing is returned.
     fn ask_again(&mut self) -> Result<(), BookFault>
         ensures faults { CountsResult result self.old.faults self.new.faults }
         ensures unchanged { Unchanged (history_of S.Store) (committed_of S.Store) (λ b. b.terms)
@@ -328,14 +329,15 @@ impl<S: Alter> SqlBook<S> {
             → IsTrue (state S.Store self.new.conn).is_open → (state S.Store self.new.conn).committed
             ≡ (state S.Store self.new.conn).now }
         ensures same_pending { self.new.pending ≡ self.old.pending }
+        ensures clean { StaysUnclean S.Store self.old.conn self.new.conn }
         ensures same { IsHonest S.Store self.new → (state S.Store self.new.conn).now
             ≡ (state S.Store self.old.conn).now }
-        ensures crash { LeavesCommitted S.Store self.old self.new.conn }
+        ensures crash { LeavesCommitted S.Store self.old.conn self.new.conn }
     {
         if self.answered {
             return Ok(());
         }
-        let asked = ask(self.alloc, &mut self.conn);
+        let asked = ask(&mut self.conn);
         let answered = asked.is_ok();
         self.answered = answered;
         counted(&mut self.faults, asked)
@@ -356,12 +358,39 @@ impl<S: Alter> SqlBook<S> {
         ensures left { IsHonest S.Store self.new
             → OnErr result (committed_of S.Store self.new ≡ committed_of S.Store self.old) }
         ensures none_pending { OnOk result (self.new.pending ≡ []) }
-        ensures crash { MayCommit S.Store self.old self.old self.new.conn }
+        ensures clean { StaysUnclean S.Store self.old.conn self.new.conn }
+        ensures crash { IsOpenIfClean S.Store self.old.conn
+            → MayCommit S.Store self.old self.old self.new.conn }
     {
         let written = commit_calls(&mut self.conn, &mut self.pending);
         let answered = written.is_ok();
         self.answered = answered;
         counted(&mut self.faults, written)
+    }
+
+    // Asks the connection, and commits the pending calls, if there are any.
+    fn commit_all(&mut self) -> Result<(), BookFault>
+        ensures faults { CountsResult result self.old.faults self.new.faults }
+        ensures unchanged { Unchanged (history_of S.Store) (committed_of S.Store) (λ b. b.terms)
+            (IsHonest S.Store) self.old self.new }
+        ensures opened { HasCleanDisk (state S.Store self.new.conn)
+            → OnOk result (IsTrue (state S.Store self.new.conn).is_open) }
+        ensures honest { HasCleanDisk (state S.Store self.new.conn)
+            → IsTrue (state S.Store self.new.conn).is_open → IsHonest S.Store self.new }
+        ensures done { IsHonest S.Store self.new
+            → OnOk result (committed_of S.Store self.new ≡ history_of S.Store self.new) }
+        ensures left { IsHonest S.Store self.new
+            → OnErr result (committed_of S.Store self.new ≡ committed_of S.Store self.old) }
+        ensures none_pending { OnOk result (self.new.pending ≡ []) }
+        ensures crash { MayCommit S.Store self.old self.old self.new.conn }
+    {
+        if let Err(fault) = self.ask_again() {
+            return Err(fault);
+        }
+        if self.pending.is_empty() {
+            return Ok(());
+        }
+        self.commit_pending()
     }
 
     // Commits the pending calls, if there are any.
@@ -377,7 +406,7 @@ impl<S: Alter> SqlBook<S> {
         ensures crash { MayCommit S.Store self.old self.old self.new.conn }
     {
         if !self.pending.is_empty() {
-            return self.commit_pending();
+            return self.commit_all();
         }
         Ok(())
     }
@@ -396,7 +425,7 @@ impl<S: Alter> SqlBook<S> {
         ensures crash { MayCommit S.Store self.old self.old self.new.conn }
     {
         if self.pending.len() >= MAX_PENDING {
-            return self.commit();
+            return self.commit_all();
         }
         self.ask_again()
     }
@@ -418,6 +447,46 @@ impl<S: Alter> SqlBook<S> {
         counted(&mut self.faults, held)
     }
 
+    // Commits the call, in one transaction with all pending calls before it.
+    fn keep_with_pending(&mut self, entry: Entry) -> Result<(), BookFault>
+        requires { IsHonest S.Store self.old → MayFollow (history_of S.Store self.old)
+            self.old.terms entry }
+        ensures faults { CountsResult result self.old.faults self.new.faults }
+        ensures was_honest { IsHonest S.Store self.new → IsHonest S.Store self.old }
+        ensures same_terms { self.new.terms ≡ self.old.terms }
+        ensures opened { HasCleanDisk (state S.Store self.new.conn)
+            → OnOk result (IsTrue (state S.Store self.new.conn).is_open) }
+        ensures clean { StaysUnclean S.Store self.old.conn self.new.conn }
+        ensures crash { IsOpenIfClean S.Store self.old.conn
+            → MayCommit S.Store self.old (with_pending self.old entry) self.new.conn }
+        ensures ok { IsHonest S.Store self.new
+            → OnOk result (history_of S.Store self.new ≡ history_of S.Store self.old ++ entry
+            ∷ []) }
+        ensures err { IsHonest S.Store self.new
+            → OnErr result (history_of S.Store self.new ≡ history_of S.Store self.old) }
+        ensures stays_committed { IsHonest S.Store self.new
+            → Grows (committed_of S.Store self.old) (committed_of S.Store self.new) }
+        ensures committed { IsHonest S.Store self.new
+            → OnOk result (committed_of S.Store self.new ≡ history_of S.Store self.new) }
+        ensures left { IsHonest S.Store self.new
+            → OnErr result (committed_of S.Store self.new ≡ committed_of S.Store self.old) }
+        ensures none_pending { OnOk result (self.new.pending ≡ []) }
+        ensures same_pending { OnErr result (self.new.pending ≡ self.old.pending) }
+    {
+        let limit = self.settings.limit();
+        let kept = keep_call(
+            self.alloc,
+            &mut self.conn,
+            &mut self.index,
+            &mut self.pending,
+            limit,
+            entry,
+        );
+        let answered = kept.is_ok();
+        self.answered = answered;
+        counted(&mut self.faults, kept)
+    }
+
     // Counts the usage of a range in the tables, when no call is pending.
     fn usage_committed(&mut self, range: &Range, day: u32) -> Result<Usage, BookFault>
         requires none_pending { self.old.pending ≡ [] }
@@ -428,7 +497,8 @@ impl<S: Alter> SqlBook<S> {
             (IsHonest S.Store) self.old self.new }
         ensures opened { HasCleanDisk (state S.Store self.new.conn)
             → OnOk result (IsTrue (state S.Store self.new.conn).is_open) }
-        ensures crash { LeavesCommitted S.Store self.old self.new.conn }
+        ensures crash { IsOpenIfClean S.Store self.old.conn
+            → LeavesCommitted S.Store self.old.conn self.new.conn }
         ensures clean { StaysUnclean S.Store self.old.conn self.new.conn }
         ensures answer { IsHonest S.Store self.new
             → IfOk result (λ u. u ≡ usage_of (history_of S.Store self.old) range.now day
@@ -453,8 +523,8 @@ impl<S: Alter> GroupCommit for SqlBook<S> {
     /// Appends the call to the pending ones, in the process. If `MAX_PENDING` calls are pending,
     /// commits these first.
     ///
-    /// If the book was honest and its disk is clean, a crash leaves the committed calls as they
-    /// were, or followed by all calls that were pending.
+    /// If the disk is clean afterwards, a stop leaves what it could leave before the call, or the
+    /// committed calls of an honest book, followed by all its pending calls.
     fn append(&mut self, entry: Entry) -> Result<(), BookFault>
         requires { IsHonest S.Store self.old → MayFollow (history_of S.Store self.old)
             self.old.terms entry }
@@ -491,9 +561,6 @@ impl<S: Alter> GroupCommit for SqlBook<S> {
             → OnOk result (IsTrue (state S.Store self.new.conn).is_open) }
         ensures honest { HasCleanDisk (state S.Store self.new.conn)
             → IsTrue (state S.Store self.new.conn).is_open → IsHonest S.Store self.new }
-        ensures quiescent { HasCleanDisk (state S.Store self.new.conn)
-            → IsTrue (state S.Store self.new.conn).is_open → (state S.Store self.new.conn).committed
-            ≡ (state S.Store self.new.conn).now }
         ensures done { IsHonest S.Store self.new
             → OnOk result (committed_of S.Store self.new ≡ history_of S.Store self.new) }
         ensures left { IsHonest S.Store self.new
@@ -501,10 +568,7 @@ impl<S: Alter> GroupCommit for SqlBook<S> {
         ensures none_pending { OnOk result (self.new.pending ≡ []) }
         ensures crash { MayCommit S.Store self.old self.old self.new.conn }
     {
-        if self.pending.is_empty() {
-            return self.ask_again();
-        }
-        self.commit_pending()
+        self.commit_all()
     }
 
     fn is_committed(&self, customer: u32, number: u32) -> bool {
@@ -561,7 +625,7 @@ impl<S: Alter> Book for SqlBook<S> {
             (IsHonest S.Store) self.old self.new }
         ensures opened { HasCleanDisk (state S.Store self.new.conn)
             → OnOk result (IsTrue (state S.Store self.new.conn).is_open) }
-        ensures crash { LeavesCommitted S.Store self.old self.new.conn }
+        ensures crash { LeavesCommitted S.Store self.old.conn self.new.conn }
         ensures answer { IsHonest S.Store self.new
             → IfOk result (λ e. e ≡ find_entry (history_of S.Store self.old) customer number) }
         ensures fits { IfOk result
@@ -579,7 +643,7 @@ impl<S: Alter> Book for SqlBook<S> {
             (IsHonest S.Store) self.old self.new }
         ensures opened { HasCleanDisk (state S.Store self.new.conn)
             → OnOk result (IsTrue (state S.Store self.new.conn).is_open) }
-        ensures crash { LeavesCommitted S.Store self.old self.new.conn }
+        ensures crash { LeavesCommitted S.Store self.old.conn self.new.conn }
         ensures answer { IsHonest S.Store self.new
             → IfOk result (λ e. e ≡ entry_at (history_of S.Store self.old) at) }
     {
@@ -595,7 +659,7 @@ impl<S: Alter> Book for SqlBook<S> {
             (IsHonest S.Store) self.old self.new }
         ensures opened { HasCleanDisk (state S.Store self.new.conn)
             → OnOk result (IsTrue (state S.Store self.new.conn).is_open) }
-        ensures crash { LeavesCommitted S.Store self.old self.new.conn }
+        ensures crash { LeavesCommitted S.Store self.old.conn self.new.conn }
         ensures answer { IsHonest S.Store self.new
             → IfOk result
             (λ r. r ≡ find (λ x. x.num == num) (ranges_of (history_of S.Store self.old))) }
@@ -612,7 +676,7 @@ impl<S: Alter> Book for SqlBook<S> {
             (IsHonest S.Store) self.old self.new }
         ensures opened { HasCleanDisk (state S.Store self.new.conn)
             → OnOk result (IsTrue (state S.Store self.new.conn).is_open) }
-        ensures crash { LeavesCommitted S.Store self.old self.new.conn }
+        ensures crash { LeavesCommitted S.Store self.old.conn self.new.conn }
         ensures answer { IsHonest S.Store self.new
             → IfOk result (λ b. b ≡ is_closed (history_of S.Store self.old) num) }
     {
@@ -628,7 +692,7 @@ impl<S: Alter> Book for SqlBook<S> {
             (IsHonest S.Store) self.old self.new }
         ensures opened { HasCleanDisk (state S.Store self.new.conn)
             → OnOk result (IsTrue (state S.Store self.new.conn).is_open) }
-        ensures crash { LeavesCommitted S.Store self.old self.new.conn }
+        ensures crash { LeavesCommitted S.Store self.old.conn self.new.conn }
         ensures above { IfOk result (λ found. IfSome found (λ r. after < r.num)) }
         ensures answer { IsHonest S.Store self.new
             → IfOk result (λ found. found ≡ find (is_open_after (history_of S.Store self.old) after
@@ -651,7 +715,7 @@ impl<S: Alter> Book for SqlBook<S> {
             (IsHonest S.Store) self.old self.new }
         ensures opened { HasCleanDisk (state S.Store self.new.conn)
             → OnOk result (IsTrue (state S.Store self.new.conn).is_open) }
-        ensures crash { LeavesCommitted S.Store self.old self.new.conn }
+        ensures crash { LeavesCommitted S.Store self.old.conn self.new.conn }
         ensures answer { IsHonest S.Store self.new
             → IfOk result (λ found. found
             ≡ find (overlaps span.now.service span.now.country span.now.first span.now.last)
@@ -673,7 +737,7 @@ impl<S: Alter> Book for SqlBook<S> {
             (IsHonest S.Store) self.old self.new }
         ensures opened { HasCleanDisk (state S.Store self.new.conn)
             → OnOk result (IsTrue (state S.Store self.new.conn).is_open) }
-        ensures crash { LeavesCommitted S.Store self.old self.new.conn }
+        ensures crash { LeavesCommitted S.Store self.old.conn self.new.conn }
         ensures answer { IsHonest S.Store self.new
             → IfOk result (λ i. i ≡ last_issue_of (history_of S.Store self.old) id.now) }
     {
@@ -691,7 +755,7 @@ impl<S: Alter> Book for SqlBook<S> {
             (IsHonest S.Store) self.old self.new }
         ensures opened { HasCleanDisk (state S.Store self.new.conn)
             → OnOk result (IsTrue (state S.Store self.new.conn).is_open) }
-        ensures crash { LeavesCommitted S.Store self.old self.new.conn }
+        ensures crash { LeavesCommitted S.Store self.old.conn self.new.conn }
         ensures answer { IsHonest S.Store self.new
             → IfOk result (λ c. c ≡ candidate_of (history_of S.Store self.old) range.now) }
     {
@@ -710,7 +774,7 @@ impl<S: Alter> Book for SqlBook<S> {
             (IsHonest S.Store) self.old self.new }
         ensures opened { HasCleanDisk (state S.Store self.new.conn)
             → OnOk result (IsTrue (state S.Store self.new.conn).is_open) }
-        ensures crash { LeavesCommitted S.Store self.old self.new.conn }
+        ensures crash { LeavesCommitted S.Store self.old.conn self.new.conn }
         ensures answer { IsHonest S.Store self.new
             → IfOk result (λ c. c ≡ candidate_after_of (history_of S.Store self.old) range.now
             issued) }
@@ -735,7 +799,7 @@ impl<S: Alter> Book for SqlBook<S> {
             → IfOk result (λ u. u ≡ usage_of (history_of S.Store self.old) range.now day
             self.old.terms.interval) }
     {
-        if let Err(fault) = self.commit() {
+        if let Err(fault) = self.commit_all() {
             return Err(fault);
         }
         self.usage_committed(range, day)
@@ -744,8 +808,8 @@ impl<S: Alter> Book for SqlBook<S> {
     /// Commits the call, in one transaction with all pending calls before it. On an error the
     /// history and the pending calls are unchanged, and an honest book has committed none of them.
     ///
-    /// If the book was honest and its disk is clean, a crash leaves the committed calls as they
-    /// were, or followed by all calls that were pending and the new one.
+    /// If the disk is clean afterwards, a stop leaves what it could leave before the call, or the
+    /// committed calls of an honest book, followed by all its pending calls and the new one.
     fn keep(&mut self, entry: Entry) -> Result<(), BookFault>
         requires { IsHonest S.Store self.old → MayFollow (history_of S.Store self.old)
             self.old.terms entry }
@@ -769,17 +833,9 @@ impl<S: Alter> Book for SqlBook<S> {
         ensures none_pending { OnOk result (self.new.pending ≡ []) }
         ensures same_pending { OnErr result (self.new.pending ≡ self.old.pending) }
     {
-        let limit = self.settings.limit();
-        let kept = keep_call(
-            self.alloc,
-            &mut self.conn,
-            &mut self.index,
-            &mut self.pending,
-            limit,
-            entry,
-        );
-        let answered = kept.is_ok();
-        self.answered = answered;
-        counted(&mut self.faults, kept)
+        if let Err(fault) = self.ask_again() {
+            return Err(fault);
+        }
+        self.keep_with_pending(entry)
     }
 }

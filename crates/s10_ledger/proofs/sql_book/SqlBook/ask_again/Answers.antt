@@ -1,10 +1,8 @@
-use Rattle.std.proofs.Common.{rules, ◌∙◌, ap, length}
-use Rattle.sqlite.specs.Effect.{Database}
-use Rattle.sqlite.specs.Held.{state}
+use Rattle.std.proofs.Common.{rules, length, arith}
 use Rattle.s10_history.specs.History.{day_of}
 use Rattle.s10_ledger.specs.Ledger.{Ledger}
 use Rattle.s10_ledger.specs.Pending.{committed_among}
-use Rattle.s10_ledger.proofs.BookLemmas.{schema_is, same_tables, if_answered, read_keeps}
+use Rattle.s10_ledger.proofs.BookLemmas.{same_tables, if_answered, read_keeps}
 use Rattle.s10_ledger.proofs.PendingLemmas.{ledger_of, sound_after_read, sound_is_honest}
 use Rattle.s10_ledger.proofs.sql_book.SqlBook.ask_again.Goals as goal
 
@@ -32,23 +30,19 @@ returns-clause-same g c =
     honest.clean honest.is_open)
 
 pub returns-clause-crash : goal.returns-clause-crash
-returns-clause-crash g c = rw (← c.self.view_is) (λ honest clean db left.
-    let kept = committed_among c.self.inside.pending.items c.self.inside.index.entries.items in
-    let conn = c.self.inside.conn in
-    g.met.S.Store.settled conn.store db honest.is_open
-    (c.ask-asked.ensures.spares clean (schema_is (state g.S.Store conn).now c.self.inside.settings
-    (length kept) (day_of kept) (c.self.invariant.ledger honest.clean honest.is_open)) db left)
-    ∙ ap (λ (d : Database). d.trees) (c.self.invariant.settled.committed honest.clean
-    honest.is_open))
+returns-clause-crash g c = rw (← c.self.view_is) c.ask-asked.ensures.spares
+
+pub returns-clause-clean : goal.returns-clause-clean
+returns-clause-clean g c = rw (← c.self.view_is) c.ask-asked.ensures.leaves.clean
 
 pub returns-then-self-clause-opened : goal.returns-then-self-clause-opened
 returns-then-self-clause-opened g c = search rules
 
 pub returns-then-self-clause-crash : goal.returns-then-self-clause-crash
-returns-then-self-clause-crash g c = rw (← c.self.view_is) (λ honest clean db left.
-    g.met.S.Store.settled c.self.inside.conn.store db honest.is_open left
-    ∙ ap (λ (d : Database). d.trees) (c.self.invariant.settled.committed honest.clean
-    honest.is_open))
+returns-then-self-clause-crash g c = λ clean db left. left
+
+pub returns-then-self-clause-clean : goal.returns-then-self-clause-clean
+returns-then-self-clause-clean g c = omega arith
 
 pub returns-clause-honest : goal.returns-clause-honest
 returns-clause-honest g c = λ clean opened. sound_is_honest g.S.Store c.ask-asked.new.conn

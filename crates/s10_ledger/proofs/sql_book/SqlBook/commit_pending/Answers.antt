@@ -1,5 +1,5 @@
-use Rattle.std.proofs.Common.{◌∙◌, ap, arith, refl}
-use Rattle.sqlite.specs.Effect.{Database}
+use Rattle.std.proofs.Common.{arith, refl}
+use Rattle.sqlite.specs.State.{HasCleanDisk}
 use Rattle.sqlite.specs.Held.{state}
 use Rattle.s10_ledger.proofs.BookLemmas.{if_answered}
 use Rattle.s10_ledger.proofs.PendingLemmas.{sound_after_write, same_after_write, sound_is_honest}
@@ -57,16 +57,23 @@ returns-clause-none_pending g c =
     rw c.counted.ensures.same (calls_if_emptied c.commit_calls-written.result
     c.commit_calls-written.new.pending.items c.commit_calls-written.ensures.emptied)
 
+pub returns-clause-clean : goal.returns-clause-clean
+returns-clause-clean g c = rw (← c.self.view_is) c.commit_calls-written.ensures.clean
+
 pub returns-clause-crash : goal.returns-clause-crash
-returns-clause-crash g c = rw (← c.self.view_is) (λ honest clean db left.
+returns-clause-crash g c = rw (← c.self.view_is) (λ answered clean db left.
     let conn = c.self.inside.conn in
-    either (c.commit_calls-written.ensures.crash clean db left)
-    (λ left. g.met.S.Store.settled conn.store db honest.is_open left
-    ∙ ap (λ (d : Database). d.trees) (c.self.invariant.settled.committed honest.clean
-    honest.is_open))
-    (λ made. written_in g.S.Store conn c.self.inside.settings c.self.inside.index
-    c.self.inside.pending.items c.self.inside.answered c.self.inside.faults db c.self.invariant
-    honest.clean honest.is_open made))
+    let was_clean : HasCleanDisk (state g.S.Store conn) =
+    omega (arith, c.commit_calls-written.ensures.clean, clean) in
+    let was_open = answered was_clean in
+    either (c.commit_calls-written.ensures.crash clean db left) (λ left. left) (λ made. (
+      sound_is_honest g.S.Store conn c.self.inside.settings c.self.inside.index
+          c.self.inside.pending.items c.self.inside.answered c.self.inside.faults c.self.invariant
+          was_clean was_open,
+      written_in g.S.Store conn c.self.inside.settings c.self.inside.index
+          c.self.inside.pending.items c.self.inside.answered c.self.inside.faults db
+          c.self.invariant was_clean was_open made,
+    )))
 
 pub returns-clause-honest : goal.returns-clause-honest
 returns-clause-honest g c = λ clean opened. sound_is_honest g.S.Store

@@ -1,7 +1,6 @@
-use Rattle.std.proofs.Common.{◌≡◌, ◌∙◌, [], inl, sym, ap, arith}
+use Rattle.std.proofs.Common.{◌≡◌, [], inl, sym, arith}
 use Rattle.std.proofs.lemmas.List.{append-nil}
 use Rattle.std.specs.Prelude.{vec_len}
-use Rattle.sqlite.specs.Effect.{Database}
 use Rattle.s10_book.proofs.Calls.{Unchanged-refl}
 use Rattle.s10_ledger.specs.Ledger.{committed_of}
 use Rattle.s10_ledger.proofs.PendingLemmas.{no_calls, some_calls, all_are_committed}
@@ -18,24 +17,21 @@ returns-clause-done g c = λ honest.
     rw none (sym (append-nil (committed_of g.S.Store c.args.self.now)))
 
 pub returns-clause-crash : goal.returns-clause-crash
-returns-clause-crash g c = rw (← c.self.view_is) (λ honest clean db left.
-    inl (g.met.S.Store.settled c.self.inside.conn.store db honest.is_open left
-    ∙ ap (λ (d : Database). d.trees) (c.self.invariant.settled.committed honest.clean
-    honest.is_open)))
+returns-clause-crash g c = λ clean db left. inl left
 
 pub returns-then-not-is_empty-clause-unchanged : goal.returns-then-not-is_empty-clause-unchanged
-returns-then-not-is_empty-clause-unchanged g c = c.commit_pending.ensures.unchanged
+returns-then-not-is_empty-clause-unchanged g c = c.commit_all.ensures.unchanged
 
 pub returns-then-not-is_empty-clause-done : goal.returns-then-not-is_empty-clause-done
 returns-then-not-is_empty-clause-done g c = λ honest. all_are_committed g.S.Store
-    c.commit_pending.new.self
-    c.commit_pending.result c.commit_pending.ensures.none_pending
+    c.commit_all.new.self
+    c.commit_all.result c.commit_all.ensures.none_pending
 
 pub returns-then-not-is_empty-clause-left : goal.returns-then-not-is_empty-clause-left
-returns-then-not-is_empty-clause-left g c = c.commit_pending.ensures.left
+returns-then-not-is_empty-clause-left g c = c.commit_all.ensures.left
 
 pub returns-then-not-is_empty-clause-crash : goal.returns-then-not-is_empty-clause-crash
-returns-then-not-is_empty-clause-crash g c = c.commit_pending.ensures.crash
+returns-then-not-is_empty-clause-crash g c = c.commit_all.ensures.crash
 
 pub returns-then-not-is_empty-clause-same : goal.returns-then-not-is_empty-clause-same
 returns-then-not-is_empty-clause-same g c = λ none. absurd (some_calls c.self.inside.pending.items

@@ -3,13 +3,13 @@ use Rattle.std.proofs.Common.{◌≡◌, ◌++◌, List, ◌∙◌, ap, sym, sub
 use Rattle.std.proofs.lemmas.List.{append-nil}
 use base.Stored.{Coded-set}
 use Rattle.s10_history.specs.contracts.usage.Usage.{the_row}
+use Rattle.sqlite.specs.State.{HasCleanDisk}
 use Rattle.sqlite.specs.Held.{state}
 use Rattle.s10_history.specs.declared.entry.Entry.{Entry}
 use Rattle.s10_history.specs.Usage.{usage_of}
 use Rattle.s10_history.specs.History.{day_of, ranges_of}
 use Rattle.s10_ledger.specs.Ledger.{Ledger, history_in}
 use Rattle.s10_ledger.specs.Pending.{calls_of, committed_among}
-use Rattle.sqlite.specs.Effect.{Database}
 use Rattle.s10_ledger.proofs.BookLemmas.{if_answered, was_ledger, read_keeps, answered}
 use Rattle.s10_ledger.proofs.BookLemmas.{schema_is}
 use Rattle.s10_ledger.proofs.PendingLemmas.{ledger_of, sound_after_read}
@@ -64,12 +64,11 @@ returns-clause-answer g c honest =
     (c.max-day.ensures ∙ ap (λ d. max d c.args.day) (c.day.ensures ∙ ap day_of calls))))))
 
 pub returns-clause-crash : goal.returns-clause-crash
-returns-clause-crash g c = rw (← c.self.view_is) (λ honest clean db left.
+returns-clause-crash g c = rw (← c.self.view_is) (λ answered clean db left.
     let kept = committed_among c.self.inside.pending.items c.self.inside.index.entries.items in
     let conn = c.self.inside.conn in
-    g.met.S.Store.settled conn.store db honest.is_open
-    (c.usage_in-found.ensures.spares clean (schema_is (state g.S.Store conn).now
-    c.self.inside.settings (length kept) (day_of kept)
-    (c.self.invariant.ledger honest.clean honest.is_open)) db left)
-    ∙ ap (λ (d : Database). d.trees) (c.self.invariant.settled.committed honest.clean
-    honest.is_open))
+    let was_clean : HasCleanDisk (state g.S.Store conn) =
+    omega (arith, c.usage_in-found.ensures.leaves.clean, clean) in
+    c.usage_in-found.ensures.spares clean (schema_is (state g.S.Store conn).now
+    c.self.inside.settings (length kept) (day_of kept) (c.self.invariant.ledger was_clean
+    (answered was_clean))) db left)

@@ -1,66 +1,31 @@
-use Rattle.std.proofs.Common.{◌∙◌, ap}
-use Rattle.sqlite.specs.Effect.{Database}
+use Rattle.std.proofs.Common.{◌∷◌, ◌++◌, [], List, ap, arith}
+use Rattle.sqlite.specs.State.{HasCleanDisk}
+use Rattle.sqlite.specs.Held.{state}
+use Rattle.s10_history.specs.declared.entry.Entry.{Entry}
 use Rattle.s10_statements.proofs.CrashLemmas.{either}
-use Rattle.s10_ledger.proofs.BookLemmas.{if_answered}
-use Rattle.s10_ledger.proofs.PendingLemmas.{sound_after_keep, sound_is_honest, kept_in}
-use Rattle.s10_ledger.proofs.PendingLemmas.{longer_if_kept, grows_after_keep}
+use Rattle.s10_ledger.specs.Ledger.{with_pending}
+use Rattle.s10_ledger.proofs.BookLemmas.{follows_still, committed_again}
 use Rattle.s10_ledger.proofs.sql_book.SqlBookBook.keep.Goals as goal
 
-pub invariant_of-self : goal.invariant_of-self
-invariant_of-self g c =
-    let k = c.keep_call-kept.ensures in
-    sound_after_keep g.S.Store c.self.inside.conn c.keep_call-kept.new.conn c.self.inside.settings
-    c.self.inside.index c.keep_call-kept.new.index c.self.inside.pending.items c.args.entry
-    c.self.inside.answered c.self.invariant
-    (λ clean opened. (rw (← c.self.view_is) at c.requires)
-    (sound_is_honest g.S.Store c.self.inside.conn c.self.inside.settings c.self.inside.index
-    c.self.inside.pending.items c.self.inside.answered c.self.inside.faults c.self.invariant
-    clean opened))
-    c.keep_call-kept.new.pending.items c.is_ok-answered.result k.few k.settled k.clean k.was_open
-    (λ so clean. if_answered c.keep_call-kept.result _ c.is_ok-answered.result
-    c.is_ok-answered.ensures.value (k.opened clean) so)
-    c.keep_call-kept.result k.calls k.same_calls k.followed k.same_index k.ok k.err k.emptied k.left
+pub keep_with_pending-requires : goal.keep_with_pending-requires
+keep_with_pending-requires g c = follows_still g.S.Store c.args.self.now
+    c.ask_again.new.self c.args.entry c.in_default.ensures.unchanged c.requires
 
-pub returns-clause-ok : goal.returns-clause-ok
-returns-clause-ok g c = rw (c.counted.ensures.same, ← c.self.view_is)
-    (λ h. let k = c.keep_call-kept.ensures in
-    longer_if_kept g.S.Store c.self.inside.conn c.keep_call-kept.new.conn c.self.inside.settings
-    c.self.inside.index c.keep_call-kept.new.index c.self.inside.pending.items c.args.entry
-    c.self.inside.answered c.self.invariant
-    (λ clean opened. (rw (← c.self.view_is) at c.requires)
-    (sound_is_honest g.S.Store c.self.inside.conn c.self.inside.settings c.self.inside.index
-    c.self.inside.pending.items c.self.inside.answered c.self.inside.faults c.self.invariant
-    clean opened))
-    c.keep_call-kept.new.pending.items c.is_ok-answered.result k.few k.settled k.clean k.was_open
-    (λ so clean. if_answered c.keep_call-kept.result _ c.is_ok-answered.result
-    c.is_ok-answered.ensures.value (k.opened clean) so)
-    c.keep_call-kept.result k.ok k.emptied h.clean h.is_open)
-
-pub returns-clause-stays_committed : goal.returns-clause-stays_committed
-returns-clause-stays_committed g c = rw (← c.self.view_is) (λ h. let k = c.keep_call-kept.ensures in
-    grows_after_keep g.S.Store c.self.inside.conn c.keep_call-kept.new.conn c.self.inside.settings
-    c.self.inside.index c.keep_call-kept.new.index c.self.inside.pending.items c.args.entry
-    c.self.inside.answered c.self.invariant
-    (λ clean opened. (rw (← c.self.view_is) at c.requires)
-    (sound_is_honest g.S.Store c.self.inside.conn c.self.inside.settings c.self.inside.index
-    c.self.inside.pending.items c.self.inside.answered c.self.inside.faults c.self.invariant
-    clean opened))
-    c.keep_call-kept.new.pending.items c.is_ok-answered.result k.few k.settled k.clean k.was_open
-    (λ so clean. if_answered c.keep_call-kept.result _ c.is_ok-answered.result
-    c.is_ok-answered.ensures.value (k.opened clean) so)
-    c.keep_call-kept.result k.ok k.err h.clean h.is_open)
+pub returns-clause-faults : goal.returns-clause-faults
+returns-clause-faults g c = rw c.in_default.ensures.faults at c.keep_with_pending.ensures.faults
 
 pub returns-clause-crash : goal.returns-clause-crash
-returns-clause-crash g c = rw (← c.self.view_is) (λ honest clean db left.
-    let conn = c.self.inside.conn in
-    either (c.keep_call-kept.ensures.crash clean db left)
-    (λ left. g.met.S.Store.settled conn.store db honest.is_open left
-    ∙ ap (λ (d : Database). d.trees) (c.self.invariant.settled.committed honest.clean
-    honest.is_open))
-    (λ made. kept_in g.S.Store conn c.keep_call-kept.new.conn c.self.inside.settings
-    c.self.inside.index c.keep_call-kept.new.index c.self.inside.pending.items c.args.entry
-    c.self.inside.answered c.self.invariant
-    (λ clean opened. (rw (← c.self.view_is) at c.requires)
-    (sound_is_honest g.S.Store c.self.inside.conn c.self.inside.settings c.self.inside.index
-    c.self.inside.pending.items c.self.inside.answered c.self.inside.faults c.self.invariant
-    clean opened)) c.self.inside.faults db honest.clean honest.is_open made))
+returns-clause-crash g c = λ clean db left.
+    let old = c.args.self.now in
+    let mid = c.ask_again.new.self in
+    let asked = c.in_default.ensures in
+    let was_clean : HasCleanDisk (state g.S.Store mid.conn) =
+    omega (arith, c.keep_with_pending.ensures.clean, clean) in
+    either (c.keep_with_pending.ensures.crash asked.opened clean db left)
+    (λ left. asked.crash was_clean db left) (λ both. (
+      asked.unchanged.was_honest both.0,
+      committed_again g.S.Store (with_pending old c.args.entry) (with_pending mid c.args.entry) db
+          (asked.same both.0)
+          (ap (λ (p : List Entry). p ++ c.args.entry ∷ []) asked.same_pending)
+          (asked.unchanged.same_terms both.0) both.1,
+    ))

@@ -1,7 +1,5 @@
-use Rattle.std.proofs.Common.{rules, List, ◌∙◌, ap, arith, subst, sym}
+use Rattle.std.proofs.Common.{rules, List, arith, subst, sym}
 use Rattle.std.specs.Prelude.{Contains}
-use Rattle.sqlite_trees.specs.Tree.{Trees}
-use Rattle.sqlite.specs.Effect.{Database}
 use Rattle.sqlite.specs.State.{HasCleanDisk}
 use Rattle.sqlite.specs.Held.{state}
 use Rattle.s10_book.proofs.Calls.{Unchanged-trans}
@@ -51,14 +49,8 @@ pub returns-in-Err-clause-crash : goal.returns-in-Err-clause-crash
 returns-in-Err-clause-crash g c = c.in-Err.ensures.crash
 
 pub returns-clause-crash : goal.returns-clause-crash
-returns-clause-crash g c = λ honest clean db left.
-    let mid = c.commit.new.self.conn in
-    let was_clean : HasCleanDisk (state g.S.Store mid) =
+returns-clause-crash g c = λ clean db left.
+    let was_clean : HasCleanDisk (state g.S.Store c.commit_all.new.self.conn) =
     omega (arith, c.usage_committed.ensures.clean, clean) in
-    let was_open = c.in_default.ensures.opened was_clean in
-    let was_honest = c.in_default.ensures.honest was_clean was_open in
-    c.in_default.ensures.crash honest was_clean db
-    (subst (λ (d : Trees). (state g.S.Store mid).may_leave d)
-    (ap (λ (d : Database). d.trees) (c.in_default.ensures.quiescent was_clean was_open)
-    ∙ sym (c.usage_committed.ensures.crash was_honest clean db left))
-    (g.met.S.Store.stays mid.store was_open))
+    c.in_default.ensures.crash was_clean db (c.usage_committed.ensures.crash
+    c.in_default.ensures.opened clean db left)

@@ -3,23 +3,13 @@ use Rattle.std.proofs.lemmas.List.{append_assoc}
 use Rattle.sqlite_trees.specs.declared.store.Store.{Ghosts}
 use Rattle.sqlite.specs.Held.{Held, state}
 use Rattle.s10_history.specs.declared.entry.Entry.{Entry}
-use Rattle.s10_book.specs.Rules.{MayFollow}
-use Rattle.s10_book.specs.Book.{Unchanged}
-use Rattle.s10_ledger.specs.Ledger.{Ledger, IsHonest, history_in, history_of, committed_of}
+use Rattle.s10_ledger.specs.Ledger.{Ledger, history_in, history_of}
+use Rattle.s10_ledger.proofs.BookLemmas.{follows_still}
 use Rattle.s10_ledger.proofs.sql_book.SqlBookGroupCommit.append.Goals as goal
 
 given : {T E : Type 0} (r : Result T E) (P : Type 0) → P → OnOk r P
 given (Ok x) P p = p
 given (Err x) P p = tt
-
-follows_still : {S : Type 0} (g : Ghosts S) (old mid : Ledger S) (e : Entry)
-    → Unchanged (history_of g) (committed_of g) (λ (l : Ledger S). l.terms) (IsHonest g) old mid
-    → (IsHonest g old → MayFollow (history_of g old) old.terms e) → IsHonest g mid
-    → MayFollow (history_of g mid) mid.terms e
-follows_still g old mid e unchanged may honest = rw (
-  unchanged.same_history honest,
-  unchanged.same_terms honest,
-) (may (unchanged.was_honest honest))
 
 module _ {S : Type 0} (g : Ghosts S) (old mid new : Ledger S) (e : Entry)
     (same : new.conn ≡ mid.conn) where
