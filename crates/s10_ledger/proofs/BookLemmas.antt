@@ -1,6 +1,6 @@
 -- What a read leaves of a ledger, and what it returns.
 use Rattle.std.proofs.Common.{◌≡◌, ℕ, Bool, true, IsTrue, ◌++◌, Result, Ok, Err, IfOk, OnOk, ap}
-use Rattle.std.proofs.Common.{List, subst, refl, sym, ◌∙◌, arith, length}
+use Rattle.std.proofs.Common.{◌⊎◌, inl, List, subst, refl, arith, length}
 use Rattle.std.specs.Result.{is_ok}
 use Rattle.std.proofs.Math.Logic.{∥∥₁_elim, ∥∥₁_map}
 use Rattle.sqlite_trees.specs.Tree.{Trees}
@@ -9,17 +9,20 @@ use Rattle.sqlite.specs.Effect.{Database}
 use Rattle.sqlite.specs.State.{HasCleanDisk}
 use Rattle.sqlite.specs.Held.{Held, state}
 use Rattle.s10_book.specs.Rules.{IsLegal, MayFollow}
-use Rattle.s10_book.specs.Book.{Unchanged}
 use Rattle.s10_book.specs.declared.faults.Faults.{Faults}
 use Rattle.s10_history.specs.declared.entry.Entry.{Entry}
 use Rattle.s10_history.specs.Settings.{Terms}
 use Rattle.s10_history.specs.History.{day_of}
 use Rattle.s10_schema.specs.Schema.{IsLedgerSchema, IsClosedSchema}
-use Rattle.s10_statements.specs.ConnectionState.{IsQuiescent}
+use Rattle.s10_statements.specs.ConnectionState.{IsQuiescent, StaysUnclean}
 use Rattle.s10_statements.specs.Statements.{LeavesTables}
-use Rattle.s10_book.proofs.Calls.{grows_same}
-use Rattle.s10_ledger.specs.Ledger.{Ledger, IsLedger, IsHonest, history_in, history_of}
-use Rattle.s10_ledger.specs.Ledger.{committed_of, IsCommittedIn}
+use Rattle.s10_book.specs.Book.{Grows}
+use Rattle.s10_book.proofs.Calls.{grows_none, grows_same}
+use Rattle.s10_ledger.specs.Ledger.{Ledger, IsLedger, IsHonest, HoldsCalls, IsFoundIn}
+use Rattle.s10_ledger.specs.Ledger.{LeavesUnchanged, MayFindAlso, LeavesCommitted, history_in}
+use Rattle.s10_ledger.specs.Ledger.{history_of, committed_of}
+use Rattle.s10_ledger.specs.Found.{one_found}
+use Rattle.s10_statements.proofs.CrashLemmas.{either}
 use Rattle.s10_statements.proofs.Apart.{is_ledger-prop, is_closed-prop}
 
 -- What is always true of a ledger's connection.
@@ -49,15 +52,48 @@ module _ {S : Type 0} (g : Ghosts S) (old new : Held S) (t : Terms) (len day : �
       → IsLedger (state g old).now t len day
   was_ledger clean opened = kept (omega (arith, leaves.clean)) (leaves.was_open clean opened)
 
+-- What an opening may find after a call that commits these calls or nothing.
+pub may_find_also : {S : Type 0} (g : Ghosts S) (old new : Ledger S) (calls : List Entry)
+    → StaysUnclean g old.conn new.conn → new.terms ≡ old.terms → Grows (committed_of g old) calls
+    → (HasCleanDisk (state g new.conn) → (db : Trees) → (state g new.conn).may_leave db
+    → (state g old.conn).may_leave db ⊎ (IsHonest g old × HoldsCalls db old.terms calls))
+    → MayFindAlso g old new calls
+may_find_also g old new calls clean same grows crash = record {
+  was_clean = λ is. omega (arith, clean, is);
+  finds = λ is found may.
+      let there = subst (λ (t : Terms). IsFoundIn may.0 t found) same may.2 in
+      either (crash is may.0 may.1) (λ left. (may.0, left, there)) (λ both. (
+        both.0,
+        (calls, one_found may.0 old.terms calls found both.1 there, grows, grows_none calls),
+      ));
+}
+
+-- An opening may find the same of a ledger with the same connection and settings.
+pub finds_the_same : {S : Type 0} (g : Ghosts S) (old mid new : Ledger S) (calls : List Entry)
+    → new.conn ≡ mid.conn → new.terms ≡ mid.terms → MayFindAlso g old mid calls
+    → MayFindAlso g old new calls
+finds_the_same {S} g old mid new calls conn terms stop =
+    let was_clean = λ (is : HasCleanDisk (state g new.conn)).
+    subst (λ (h : Held S). HasCleanDisk (state g h)) conn is in
+    record {
+      was_clean = λ is. stop.was_clean (was_clean is);
+      finds = λ is found may. stop.finds (was_clean is) found (
+        may.0,
+        subst (λ (h : Held S). (state g h).may_leave may.0) conn may.1,
+        subst (λ (t : Terms). IsFoundIn may.0 t found) terms may.2,
+      );
+    }
+
 pub read_keeps : {S : Type 0} (g : Ghosts S) (old : Ledger S) (conn : Held S) (faults : Faults)
-    → LeavesTables g old.conn conn → IsQuiescent g old.conn → IsKept g old.conn old.terms old.len
-    old.day
-    → Unchanged (history_of g) (committed_of g) (λ (l : Ledger S). l.terms) (IsHonest g) old
-    (record old { conn = conn; faults = faults })
-read_keeps g old conn faults leaves settled kept = record {
+    → LeavesTables g old.conn conn → LeavesCommitted g old.conn conn → IsQuiescent g old.conn
+    → IsKept g old.conn old.terms old.len old.day
+    → LeavesUnchanged g old (record old { conn = conn; faults = faults })
+read_keeps g old conn faults leaves spares settled kept = record {
   was_honest = λ h. record {
     clean = omega (arith, leaves.clean, h.clean);
     is_open = leaves.was_open h.clean h.is_open;
+    committed = settled.committed (omega (arith, leaves.clean, h.clean))
+        (leaves.was_open h.clean h.is_open);
     ledger = was_ledger g old.conn conn old.terms old.len old.day leaves settled kept h.clean
         h.is_open;
     legal = subst (λ (d : Database). IsLegal (history_in d ++ old.pending) old.terms)
@@ -70,6 +106,8 @@ read_keeps g old conn faults leaves settled kept = record {
   stays_committed = λ h. grows_same (history_in (state g old.conn).now)
       (history_in (state g conn).now) (ap history_in (same_tables g old.conn conn old.terms old.len
       old.day leaves settled kept h.clean h.is_open));
+  stop = may_find_also g old (record old { conn = conn; faults = faults }) (history_of g old)
+      leaves.clean refl (old.pending, refl) (λ is db left. inl (spares is db left));
 }
 
 pub answered : {A T E : Type 0} → IsSet T → (r : Result T E) (x : T) → ∥ A ∥₁
@@ -99,29 +137,9 @@ ledger_again db t u len day it same = subst (λ (v : Terms). IsLedger db v (leng
 
 -- A call that may follow a book may follow it after a call that leaves it unchanged.
 pub follows_still : {S : Type 0} (g : Ghosts S) (old mid : Ledger S) (e : Entry)
-    → Unchanged (history_of g) (committed_of g) (λ (l : Ledger S). l.terms) (IsHonest g) old mid
-    → (IsHonest g old → MayFollow (history_of g old) old.terms e) → IsHonest g mid
-    → MayFollow (history_of g mid) mid.terms e
+    → LeavesUnchanged g old mid → (IsHonest g old → MayFollow (history_of g old) old.terms e)
+    → IsHonest g mid → MayFollow (history_of g mid) mid.terms e
 follows_still g old mid e unchanged may honest = rw (
   unchanged.same_history honest,
   unchanged.same_terms honest,
 ) (may (unchanged.was_honest honest))
-
--- Two ledgers with the same database, pending calls and settings are committed in the same trees.
-pub committed_again : {S : Type 0} (g : Ghosts S) (old mid : Ledger S) (db : Trees)
-    → (state g mid.conn).now ≡ (state g old.conn).now → mid.pending ≡ old.pending
-    → mid.terms ≡ old.terms → IsCommittedIn g mid db → IsCommittedIn g old db
-committed_again g old mid db now pending terms it =
-    let same : history_of g mid ≡ history_of g old =
-    ap (λ (d : Database). history_in d ++ mid.pending) now
-    ∙ ap (λ (p : List Entry). history_in (state g old.conn).now ++ p) pending in
-    record {
-      history = ap (λ (d : Database). history_in (record d { trees = db })) (sym now) ∙ it.history
-          ∙ same;
-      ledger = subst (λ (d : Database). IsLedger (record d { trees = db }) old.terms
-          (length (history_of g old)) (day_of (history_of g old))) now
-          (subst (λ (h : List Entry). IsLedger (record (state g mid.conn).now { trees = db })
-          old.terms (length h) (day_of h)) same
-          (subst (λ (t : Terms). IsLedger (record (state g mid.conn).now { trees = db }) t
-          (length (history_of g mid)) (day_of (history_of g mid))) terms it.ledger));
-    }

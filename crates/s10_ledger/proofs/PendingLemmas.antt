@@ -38,8 +38,9 @@ use Rattle.s10_statements.specs.ConnectionState.{IsQuiescent, IsOpenIf, StaysUnc
 use Rattle.s10_statements.specs.Shown.{HasTables, StandsFor}
 use Rattle.s10_statements.specs.Statements.{LeavesTables}
 use Rattle.s10_ledger.specs.declared.sql_book.TheConstants.{MAX_PENDING}
-use Rattle.s10_ledger.specs.Ledger.{Ledger, IsLedger, Holds, IsHonest, IsCommittedIn, history_in}
-use Rattle.s10_ledger.specs.Ledger.{with_pending, history_of, committed_of}
+use Rattle.s10_ledger.specs.Ledger.{Ledger, IsLedger, Holds, IsHonest, HoldsCalls, history_in}
+use Rattle.s10_ledger.specs.Ledger.{history_of, committed_of}
+use Rattle.s10_ledger.specs.Found.{ledger_holds}
 use Rattle.s10_ledger.specs.Pending.{calls_of, committed_among, HoldsPending, IsFollowed, IsSound}
 use Rattle.s10_ledger.specs.Pending.{IsWriteOf, IsWrittenWith}
 use Rattle.s10_ledger.proofs.HistoryLemmas.{history_is}
@@ -139,9 +140,19 @@ sound_is_honest g conn t index ws answered faults sound clean opened =
     record {
       clean = clean;
       is_open = opened;
+      committed = sound.settled.committed clean opened;
       ledger = sound.ledger clean opened;
       legal = (sound.followed clean opened).legal;
     }
+
+pub honest_if_ok : {S T E : Type 0} (g : Ghosts S) (conn : Held S) (t : Terms) (index : CallIndex)
+    (ws : List CallWrite) (answered : Bool) (faults : Faults) (r : Result T E)
+    → IsSound g conn t index ws answered
+    → (HasCleanDisk (state g conn) → OnOk r (IsTrue (state g conn).is_open))
+    → HasCleanDisk (state g conn) → OnOk r (IsHonest g (ledger_of conn t index ws faults))
+honest_if_ok g conn t index ws answered faults (Ok x) sound opened clean =
+    sound_is_honest g conn t index ws answered faults sound clean (opened clean)
+honest_if_ok g conn t index ws answered faults (Err x) sound opened clean = tt
 
 -- What is always true is true of a new book.
 pub sound_at_first : {S : Type 0} (g : Ghosts S) (conn : Held S) (t : Terms) (index : CallIndex)
@@ -432,24 +443,20 @@ pub unwritten_history : {T E : Type 0} (old new : Database) (r : Result T E) →
 unwritten_history old new (Ok x) same = tt
 unwritten_history old new (Err x) same = ap history_in same
 
--- What a crash leaves once they are written.
+-- What a stop leaves once they are written.
 pub written_in : {S : Type 0} (g : Ghosts S) (conn : Held S) (t : Terms) (index : CallIndex)
-    (ws : List CallWrite) (answered : Bool) (faults : Faults) (db : Trees)
-    → IsSound g conn t index ws answered
+    (ws : List CallWrite) (answered : Bool) (db : Trees) → IsSound g conn t index ws answered
     → HasCleanDisk (state g conn) → IsTrue (state g conn).is_open
     → ((a b : Tables) → AreWritten ws a b → HasTables (state g conn).now a
     → HasTables (record (state g conn).now { trees = db }) b)
-    → IsCommittedIn g (ledger_of conn t index ws faults) db
-written_in g conn t index ws answered faults db sound clean opened made =
+    → HoldsCalls db t (history_in (state g conn).now ++ calls_of ws)
+written_in g conn t index ws answered db sound clean opened made =
     let old = (state g conn).now in
     let new : Database = record old { trees = db } in
     let followed = sound.followed clean opened in
-    record {
-      history = written_history old new t _ _ ws (sound.ledger clean opened) followed.legal
-          followed.held made;
-      ledger = written_ledger old new t _ _ ws (sound.ledger clean opened) followed.legal
-          followed.held made _ _ refl refl;
-    }
+    subst (HoldsCalls db t) (written_history old new t _ _ ws (sound.ledger clean opened)
+    followed.legal followed.held made) (ledger_holds new t _ _ (written_ledger old new t _ _ ws
+    (sound.ledger clean opened) followed.legal followed.held made _ _ refl refl))
 
 -- An append that succeeded.
 pub pushed : {T E : Type 0} (r : Result T E) (new old : List CallWrite) (w : CallWrite)
@@ -503,16 +510,13 @@ module _ {S : Type 0} (g : Ghosts S) (old new : Held S) (t : Terms) (index after
         (subst (Indexes after) (sym kept_longer) indexed)
 
   -- What a stop leaves once all these calls are written.
-  pub kept_in : (faults : Faults) (db : Trees) → HasCleanDisk (state g old)
-      → IsTrue (state g old).is_open
+  pub kept_in : (db : Trees) → HasCleanDisk (state g old) → IsTrue (state g old).is_open
       → IsWrittenWith (state g old).now (record (state g old).now { trees = db }) index ws e
-      → IsCommittedIn g (with_pending (ledger_of old t index ws faults) e) db
-  kept_in faults db clean opened made =
-      let same = append_assoc (history_in (state g old).now) (calls_of ws) (e ∷ []) in
-      record {
-        history = kept_history _ clean opened made ∙ same;
-        ledger = kept_ledger _ clean opened made _ _ (ap length (sym same)) (ap day_of (sym same));
-      }
+      → HoldsCalls db t ((history_in (state g old).now ++ calls_of ws) ++ e ∷ [])
+  kept_in db clean opened made =
+      let new : Database = record (state g old).now { trees = db } in
+      subst (HoldsCalls db t) (kept_history new clean opened made)
+      (ledger_holds new t _ _ (kept_ledger new clean opened made _ _ refl refl))
 
   module _ (now : List CallWrite) (answered : Bool)
       (few : length index.entries.items ≤ MAX_LIMIT → length after.entries.items ≤ MAX_LIMIT)

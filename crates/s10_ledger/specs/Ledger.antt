@@ -1,6 +1,6 @@
 -- Defines what a ledger in tables holds, and when it is honest.
-use Rattle.std.specs.Prelude.{◌≡◌, ◌⊎◌, ℕ, zero, suc, ◌+◌, ℤ, pos, IsTrue, List, [], ◌∷◌, ◌++◌}
-use Rattle.std.specs.Prelude.{length, map, filter, All, refl}
+use Rattle.std.specs.Prelude.{◌≡◌, ◌⊎◌, ℕ, zero, suc, ◌+◌, ℤ, pos, IsTrue, List, [], ◌++◌}
+use Rattle.std.specs.Prelude.{length, map, filter, All, Option, Some, None, refl}
 use Rattle.std.specs.Coded.{Coded, code_by, coded×, coded_ℕ, coded_list}
 use Rattle.sqlite_value.specs.declared.value.Value.{Value}
 use Rattle.sqlite_value.specs.declared.value.Value.TheVariants.{Null, Int, Real, Text, Blob}
@@ -15,6 +15,7 @@ use Rattle.s10_history.specs.contracts.entry.Entry as entry
 use Rattle.s10_book.specs.declared.faults.Faults.{Faults}
 use Rattle.s10_history.specs.Settings.{Terms}
 use Rattle.s10_history.specs.History.{day_of}
+use Rattle.s10_book.specs.Book.{FindsAfter, Unchanged}
 use Rattle.s10_book.specs.Rules.{IsLegal}
 use Rattle.s10_index.specs.declared.call_index.CallIndex.{CallIndex}
 use Rattle.s10_index.specs.CallIndex.{Indexes}
@@ -145,23 +146,45 @@ committed_of g l = history_in (state g l.conn).now
 abbrev pub history_of : {S : Type 0} → Ghosts S → Ledger S → List Entry
 history_of g l = history_in (state g l.conn).now ++ l.pending
 
--- A ledger is honest if its disk is clean, its connection is open, its tables are a ledger, and its
--- history is legal.
+-- A ledger is honest if its disk is clean, its connection is open, what this shows is committed,
+-- its tables are a ledger, and its history is legal.
 pub record IsHonest {S : Type 0} (g : Ghosts S) (l : Ledger S) : Type 0 where
   pub clean : HasCleanDisk (state g l.conn)
   pub is_open : IsTrue (state g l.conn).is_open
+  pub committed : (state g l.conn).committed ≡ (state g l.conn).now
   pub ledger : IsLedger (state g l.conn).now l.terms l.len l.day
   pub legal : IsLegal (history_of g l) l.terms
 
--- The trees hold the ledger with all its pending calls committed.
-pub record IsCommittedIn {S : Type 0} (g : Ghosts S) (l : Ledger S) (db : Trees) : Type 0 where
-  pub history : history_in (record (state g l.conn).now { trees = db }) ≡ history_of g l
-  pub ledger : IsLedger (record (state g l.conn).now { trees = db }) l.terms
-      (length (history_of g l)) (day_of (history_of g l))
+-- The disk of the ledger is clean.
+abbrev pub IsOverCleanDisk : {S : Type 0} → Ghosts S → Ledger S → Type 0
+IsOverCleanDisk g l = HasCleanDisk (state g l.conn)
 
--- The ledger with one more pending call.
-abbrev pub with_pending : {S : Type 0} → Ledger S → Entry → Ledger S
-with_pending l e = record l { pending = l.pending ++ e ∷ [] }
+-- Under the schema of a ledger, the trees are a ledger with these settings and calls.
+pub record HoldsCalls (db : Trees) (t : Terms) (calls : List Entry) : Type 0 where
+  pub history : history_in (record { schema = ledger_schema; trees = db }) ≡ calls
+  pub ledger : IsLedger (record { schema = ledger_schema; trees = db }) t (length calls)
+      (day_of calls)
+
+-- What an opening finds in these trees: the calls of a ledger with these settings, or no such
+-- ledger.
+abbrev pub IsFoundIn : Trees → Terms → Option (List Entry) → Type 0
+IsFoundIn db t (Some calls) = HoldsCalls db t calls
+IsFoundIn db t None = (calls : List Entry) → ¬ HoldsCalls db t calls
+
+-- What an opening may find if the process stops now.
+abbrev pub MayFind : {S : Type 0} → Ghosts S → Ledger S → Option (List Entry) → Type 0
+MayFind g l found = (db : Trees) × (state g l.conn).may_leave db × IsFoundIn db l.terms found
+
+-- A call leaves the ledger unchanged.
+abbrev pub LeavesUnchanged : {S : Type 0} → Ghosts S → Ledger S → Ledger S → Type 0
+LeavesUnchanged {S} g old new = Unchanged (history_of g) (committed_of g)
+    (λ (l : Ledger S). l.terms) (IsHonest g) (IsOverCleanDisk g) (MayFind g) old new
+
+-- After a stop, an opening may find what it could find before the call or, if the ledger was
+-- honest, its committed calls and more of these calls.
+abbrev pub MayFindAlso : {S : Type 0} → Ghosts S → Ledger S → Ledger S → List Entry → Type 0
+MayFindAlso g old new calls = FindsAfter (committed_of g) (IsHonest g) (IsOverCleanDisk g)
+    (MayFind g) old new calls
 
 -- The connection is open if its disk is clean.
 abbrev pub IsOpenIfClean : {S : Type 0} → Ghosts S → Held S → Type 0
@@ -171,13 +194,6 @@ IsOpenIfClean g conn = HasCleanDisk (state g conn) → IsTrue (state g conn).is_
 abbrev pub LeavesCommitted : {S : Type 0} → Ghosts S → Held S → Held S → Type 0
 LeavesCommitted g old new = HasCleanDisk (state g new) → (db : Trees) → (state g new).may_leave db
     → (state g old).may_leave db
-
--- What a stop may leave could be left before the call, or the ledger was honest and it is the whole
--- ledger with all its pending calls committed.
-abbrev pub MayCommit : {S : Type 0} → Ghosts S → Ledger S → Ledger S → Held S → Type 0
-MayCommit g old whole conn = HasCleanDisk (state g conn) → (db : Trees)
-    → (state g conn).may_leave db
-    → (state g old.conn).may_leave db ⊎ (IsHonest g old × IsCommittedIn g whole db)
 
 -- What a stop may leave could be left before the call, or it is a ledger with no call.
 abbrev pub MayCreate : {S : Type 0} → Ghosts S → Terms → Held S → Held S → Type 0

@@ -1,5 +1,6 @@
 pub mod TableLayout
 pub mod Ledger
+pub mod Found
 pub mod Pending
 pub mod Refusals
 pub mod AllRows

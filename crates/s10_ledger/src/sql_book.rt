@@ -78,7 +78,7 @@ impl<S: Alter> SqlBook<S> {
     ghost use Rattle.sqlite.specs.Held.{state};
     ghost use Rattle.sqlite.specs.State.{HasCleanDisk};
     ghost use Rattle.s10_ledger.specs.Ledger.{Ledger, IsLedger, IsIndexed, IsHonest, history_in};
-    ghost use Rattle.s10_ledger.specs.Ledger.{history_of, committed_of, MayCommit, MayCreate};
+    ghost use Rattle.s10_ledger.specs.Ledger.{history_of, committed_of, MayCreate, MayFindAlso};
     ghost use Rattle.s10_statements.specs.ConnectionState.{IsQuiescent, WasSound};
     ghost use Rattle.s10_statements.specs.Creating.{HasOneOfTheNames, IsCreateRefusal};
     ghost use Rattle.s10_schema.specs.Schema.{ledger_schema};
@@ -216,7 +216,8 @@ impl<S: Alter> SqlBook<S> {
             ≡ committed_of S.Store self) }
         ensures same { self.pending ≡ [] → result.connection ≡ self.conn }
         ensures none_pending { self.pending ≡ [] → OnErr result.committed ⊥ }
-        ensures crash { MayCommit S.Store self self result.connection }
+        ensures stop { MayFindAlso S.Store self (record self { conn = result.connection })
+            (history_of S.Store self) }
     {
         let committed = self.commit_rest();
         let connection = self.into_connection();
@@ -303,36 +304,26 @@ fn counted<T>(faults: &mut Faults, answer: Result<T, BookFault>) -> Result<T, Bo
 }
 
 impl<S: Alter> SqlBook<S> {
-    ghost use Rattle.std.specs.Prelude.{◌⊎◌, ◌++◌, ◌∷◌, ◌<◌, length, IfOk, IsTrue, OnErr, OnOk};
+    ghost use Rattle.std.specs.Prelude.{◌++◌, ◌∷◌, ◌<◌, length, IfOk, IsTrue, OnErr, OnOk};
     ghost use Rattle.std.specs.Prelude.{Contains};
-    ghost use Rattle.std.specs.List.{list_any};
-    ghost use Rattle.sqlite.specs.State.{HasCleanDisk};
-    ghost use Rattle.s10_history.specs.History.{has_key, ranges_of};
+    ghost use Rattle.s10_history.specs.History.{ranges_of};
     ghost use Rattle.s10_history.specs.Usage.{usage_of};
     ghost use Rattle.s10_book.specs.Rules.{MayFollow};
-    ghost use Rattle.s10_book.specs.Book.{Grows, Unchanged};
-    ghost use Rattle.s10_ledger.specs.Ledger.{history_of, committed_of, with_pending};
-    ghost use Rattle.s10_ledger.specs.Ledger.{IsOpenIfClean, LeavesCommitted, MayCommit};
-    ghost use Rattle.s10_statements.specs.ConnectionState.{StaysUnclean};
+    ghost use Rattle.s10_book.specs.Book.{Grows};
+    ghost use Rattle.s10_ledger.specs.Ledger.{history_of, committed_of, IsOverCleanDisk};
+    ghost use Rattle.s10_ledger.specs.Ledger.{LeavesUnchanged, IsOpenIfClean, MayFindAlso};
 
     // Asks the connection if it did not answer the last statement, so that no statement runs over a
     // closed connection, and nothing is returned.
     fn ask_again(&mut self) -> Result<(), BookFault>
         ensures faults { CountsResult result self.old.faults self.new.faults }
-        ensures unchanged { Unchanged (history_of S.Store) (committed_of S.Store) (λ b. b.terms)
-            (IsHonest S.Store) self.old self.new }
-        ensures opened { HasCleanDisk (state S.Store self.new.conn)
-            → OnOk result (IsTrue (state S.Store self.new.conn).is_open) }
-        ensures honest { HasCleanDisk (state S.Store self.new.conn)
-            → IsTrue (state S.Store self.new.conn).is_open → IsHonest S.Store self.new }
-        ensures quiescent { HasCleanDisk (state S.Store self.new.conn)
-            → IsTrue (state S.Store self.new.conn).is_open → (state S.Store self.new.conn).committed
-            ≡ (state S.Store self.new.conn).now }
+        ensures unchanged { LeavesUnchanged S.Store self.old self.new }
+        ensures same_terms { self.new.terms ≡ self.old.terms }
+        ensures opened { IsOverCleanDisk S.Store self.new
+            → OnOk result (IsHonest S.Store self.new) }
         ensures same_pending { self.new.pending ≡ self.old.pending }
-        ensures clean { StaysUnclean S.Store self.old.conn self.new.conn }
         ensures same { IsHonest S.Store self.new → (state S.Store self.new.conn).now
             ≡ (state S.Store self.old.conn).now }
-        ensures crash { LeavesCommitted S.Store self.old.conn self.new.conn }
     {
         if self.answered {
             return Ok(());
@@ -345,22 +336,15 @@ impl<S: Alter> SqlBook<S> {
 
     // Commits the pending calls in one transaction.
     fn commit_pending(&mut self) -> Result<(), BookFault>
+        requires { IsOpenIfClean S.Store self.old.conn }
         ensures faults { CountsResult result self.old.faults self.new.faults }
-        ensures unchanged { Unchanged (history_of S.Store) (committed_of S.Store) (λ b. b.terms)
-            (IsHonest S.Store) self.old self.new }
-        ensures opened { HasCleanDisk (state S.Store self.new.conn)
-            → OnOk result (IsTrue (state S.Store self.new.conn).is_open) }
-        ensures honest { HasCleanDisk (state S.Store self.new.conn)
-            → IsTrue (state S.Store self.new.conn).is_open → IsHonest S.Store self.new }
-        ensures quiescent { HasCleanDisk (state S.Store self.new.conn)
-            → IsTrue (state S.Store self.new.conn).is_open → (state S.Store self.new.conn).committed
-            ≡ (state S.Store self.new.conn).now }
+        ensures unchanged { LeavesUnchanged S.Store self.old self.new }
+        ensures same_terms { self.new.terms ≡ self.old.terms }
+        ensures opened { IsOverCleanDisk S.Store self.new
+            → OnOk result (IsHonest S.Store self.new) }
         ensures left { IsHonest S.Store self.new
             → OnErr result (committed_of S.Store self.new ≡ committed_of S.Store self.old) }
         ensures none_pending { OnOk result (self.new.pending ≡ []) }
-        ensures clean { StaysUnclean S.Store self.old.conn self.new.conn }
-        ensures crash { IsOpenIfClean S.Store self.old.conn
-            → MayCommit S.Store self.old self.old self.new.conn }
     {
         let written = commit_calls(&mut self.conn, &mut self.pending);
         let answered = written.is_ok();
@@ -371,18 +355,15 @@ impl<S: Alter> SqlBook<S> {
     // Asks the connection, and commits the pending calls, if there are any.
     fn commit_all(&mut self) -> Result<(), BookFault>
         ensures faults { CountsResult result self.old.faults self.new.faults }
-        ensures unchanged { Unchanged (history_of S.Store) (committed_of S.Store) (λ b. b.terms)
-            (IsHonest S.Store) self.old self.new }
-        ensures opened { HasCleanDisk (state S.Store self.new.conn)
-            → OnOk result (IsTrue (state S.Store self.new.conn).is_open) }
-        ensures honest { HasCleanDisk (state S.Store self.new.conn)
-            → IsTrue (state S.Store self.new.conn).is_open → IsHonest S.Store self.new }
+        ensures unchanged { LeavesUnchanged S.Store self.old self.new }
+        ensures same_terms { self.new.terms ≡ self.old.terms }
+        ensures opened { IsOverCleanDisk S.Store self.new
+            → OnOk result (IsHonest S.Store self.new) }
         ensures done { IsHonest S.Store self.new
             → OnOk result (committed_of S.Store self.new ≡ history_of S.Store self.new) }
         ensures left { IsHonest S.Store self.new
             → OnErr result (committed_of S.Store self.new ≡ committed_of S.Store self.old) }
         ensures none_pending { OnOk result (self.new.pending ≡ []) }
-        ensures crash { MayCommit S.Store self.old self.old self.new.conn }
     {
         if let Err(fault) = self.ask_again() {
             return Err(fault);
@@ -395,15 +376,14 @@ impl<S: Alter> SqlBook<S> {
 
     // Commits the pending calls, if there are any.
     fn commit_rest(&mut self) -> Result<(), BookFault>
-        ensures unchanged { Unchanged (history_of S.Store) (committed_of S.Store) (λ b. b.terms)
-            (IsHonest S.Store) self.old self.new }
+        ensures unchanged { LeavesUnchanged S.Store self.old self.new }
+        ensures same_terms { self.new.terms ≡ self.old.terms }
         ensures done { IsHonest S.Store self.new
             → OnOk result (committed_of S.Store self.new ≡ history_of S.Store self.new) }
         ensures left { IsHonest S.Store self.new
             → OnErr result (committed_of S.Store self.new ≡ committed_of S.Store self.old) }
         ensures same { self.old.pending ≡ [] → self.new.conn ≡ self.old.conn }
         ensures none_pending { self.old.pending ≡ [] → OnErr result ⊥ }
-        ensures crash { MayCommit S.Store self.old self.old self.new.conn }
     {
         if !self.pending.is_empty() {
             return self.commit_all();
@@ -414,15 +394,13 @@ impl<S: Alter> SqlBook<S> {
     // Commits if `MAX_PENDING` calls are pending. Otherwise asks the connection, as the reads do.
     fn make_room(&mut self) -> Result<(), BookFault>
         ensures faults { CountsResult result self.old.faults self.new.faults }
-        ensures unchanged { Unchanged (history_of S.Store) (committed_of S.Store) (λ b. b.terms)
-            (IsHonest S.Store) self.old self.new }
-        ensures opened { HasCleanDisk (state S.Store self.new.conn)
-            → OnOk result (IsTrue (state S.Store self.new.conn).is_open) }
+        ensures unchanged { LeavesUnchanged S.Store self.old self.new }
+        ensures opened { IsOverCleanDisk S.Store self.new
+            → OnOk result (IsHonest S.Store self.new) }
         ensures room { OnOk result (length self.new.pending < MAX_PENDING) }
         ensures uncommitted { IsHonest S.Store self.new → length self.old.pending < MAX_PENDING
             → ((state S.Store self.new.conn).now ≡ (state S.Store self.old.conn).now)
             × (self.new.pending ≡ self.old.pending) }
-        ensures crash { MayCommit S.Store self.old self.old self.new.conn }
     {
         if self.pending.len() >= MAX_PENDING {
             return self.commit_all();
@@ -439,6 +417,8 @@ impl<S: Alter> SqlBook<S> {
         ensures same_conn { self.new.conn ≡ self.old.conn }
         ensures same_terms { self.new.terms ≡ self.old.terms }
         ensures was_honest { IsHonest S.Store self.new → IsHonest S.Store self.old }
+        ensures honest { IsOverCleanDisk S.Store self.new
+            → IsTrue (state S.Store self.new.conn).is_open → IsHonest S.Store self.new }
         ensures ok { OnOk result (self.new.pending ≡ self.old.pending ++ entry.now ∷ []) }
         ensures err { OnErr result (self.new.pending ≡ self.old.pending) }
     {
@@ -447,18 +427,18 @@ impl<S: Alter> SqlBook<S> {
         counted(&mut self.faults, held)
     }
 
-    // Commits the call, in one transaction with all pending calls before it.
+    // Commits the call, in one transaction with all pending calls before it. On an error an honest
+    // book has committed none of them.
     fn keep_with_pending(&mut self, entry: Entry) -> Result<(), BookFault>
         requires { IsHonest S.Store self.old → MayFollow (history_of S.Store self.old)
             self.old.terms entry }
         ensures faults { CountsResult result self.old.faults self.new.faults }
         ensures was_honest { IsHonest S.Store self.new → IsHonest S.Store self.old }
         ensures same_terms { self.new.terms ≡ self.old.terms }
-        ensures opened { HasCleanDisk (state S.Store self.new.conn)
-            → OnOk result (IsTrue (state S.Store self.new.conn).is_open) }
-        ensures clean { StaysUnclean S.Store self.old.conn self.new.conn }
-        ensures crash { IsOpenIfClean S.Store self.old.conn
-            → MayCommit S.Store self.old (with_pending self.old entry) self.new.conn }
+        ensures opened { IsOverCleanDisk S.Store self.new
+            → OnOk result (IsHonest S.Store self.new) }
+        ensures stop { IsOpenIfClean S.Store self.old.conn → MayFindAlso S.Store self.old self.new
+            (history_of S.Store self.old ++ entry ∷ []) }
         ensures ok { IsHonest S.Store self.new
             → OnOk result (history_of S.Store self.new ≡ history_of S.Store self.old ++ entry
             ∷ []) }
@@ -470,8 +450,6 @@ impl<S: Alter> SqlBook<S> {
             → OnOk result (committed_of S.Store self.new ≡ history_of S.Store self.new) }
         ensures left { IsHonest S.Store self.new
             → OnErr result (committed_of S.Store self.new ≡ committed_of S.Store self.old) }
-        ensures none_pending { OnOk result (self.new.pending ≡ []) }
-        ensures same_pending { OnErr result (self.new.pending ≡ self.old.pending) }
     {
         let limit = self.settings.limit();
         let kept = keep_call(
@@ -490,16 +468,13 @@ impl<S: Alter> SqlBook<S> {
     // Counts the usage of a range in the tables, when no call is pending.
     fn usage_committed(&mut self, range: &Range, day: u32) -> Result<Usage, BookFault>
         requires none_pending { self.old.pending ≡ [] }
+        requires opened { IsOpenIfClean S.Store self.old.conn }
         requires there { IsHonest S.Store self.old
             → Contains (ranges_of (history_of S.Store self.old)) range.now }
         ensures faults { CountsResult result self.old.faults self.new.faults }
-        ensures unchanged { Unchanged (history_of S.Store) (committed_of S.Store) (λ b. b.terms)
-            (IsHonest S.Store) self.old self.new }
-        ensures opened { HasCleanDisk (state S.Store self.new.conn)
-            → OnOk result (IsTrue (state S.Store self.new.conn).is_open) }
-        ensures crash { IsOpenIfClean S.Store self.old.conn
-            → LeavesCommitted S.Store self.old.conn self.new.conn }
-        ensures clean { StaysUnclean S.Store self.old.conn self.new.conn }
+        ensures unchanged { LeavesUnchanged S.Store self.old self.new }
+        ensures opened { IsOverCleanDisk S.Store self.new
+            → OnOk result (IsHonest S.Store self.new) }
         ensures answer { IsHonest S.Store self.new
             → IfOk result (λ u. u ≡ usage_of (history_of S.Store self.old) range.now day
             self.old.terms.interval) }
@@ -514,37 +489,9 @@ impl<S: Alter> SqlBook<S> {
 }
 
 impl<S: Alter> GroupCommit for SqlBook<S> {
-    ghost use Rattle.std.specs.Prelude.{◌++◌, ◌∷◌, ◌<◌, length, IsTrue, OnErr, OnOk};
-    ghost use Rattle.sqlite.specs.State.{HasCleanDisk};
-    ghost use Rattle.s10_book.specs.Rules.{MayFollow};
-    ghost use Rattle.s10_book.specs.Book.{Grows, Unchanged};
-    ghost use Rattle.s10_ledger.specs.Ledger.{history_of, committed_of, MayCommit};
-
     /// Appends the call to the pending ones, in the process. If `MAX_PENDING` calls are pending,
     /// commits these first.
-    ///
-    /// If the disk is clean afterwards, a stop leaves what it could leave before the call, or the
-    /// committed calls of an honest book, followed by all its pending calls.
-    fn append(&mut self, entry: Entry) -> Result<(), BookFault>
-        requires { IsHonest S.Store self.old → MayFollow (history_of S.Store self.old)
-            self.old.terms entry }
-        ensures faults { CountsResult result self.old.faults self.new.faults }
-        ensures was_honest { IsHonest S.Store self.new → IsHonest S.Store self.old }
-        ensures same_terms { IsHonest S.Store self.new → self.new.terms ≡ self.old.terms }
-        ensures opened { HasCleanDisk (state S.Store self.new.conn)
-            → OnOk result (IsTrue (state S.Store self.new.conn).is_open) }
-        ensures crash { MayCommit S.Store self.old self.old self.new.conn }
-        ensures ok { IsHonest S.Store self.new
-            → OnOk result (history_of S.Store self.new ≡ history_of S.Store self.old ++ entry
-            ∷ []) }
-        ensures err { IsHonest S.Store self.new
-            → OnErr result (history_of S.Store self.new ≡ history_of S.Store self.old) }
-        ensures stays_committed { IsHonest S.Store self.new
-            → Grows (committed_of S.Store self.old) (committed_of S.Store self.new) }
-        ensures uncommitted { IsHonest S.Store self.new → length self.old.pending < MAX_PENDING
-            → OnOk result (((state S.Store self.new.conn).now ≡ (state S.Store self.old.conn).now)
-            × (self.new.pending ≡ self.old.pending ++ entry ∷ [])) }
-    {
+    fn append(&mut self, entry: Entry) -> Result<(), BookFault> {
         if let Err(fault) = self.make_room() {
             return Err(fault);
         }
@@ -553,21 +500,7 @@ impl<S: Alter> GroupCommit for SqlBook<S> {
 
     /// Commits all pending calls in one transaction. On an error they stay pending, and a book that
     /// is honest has committed none of them.
-    fn commit(&mut self) -> Result<(), BookFault>
-        ensures faults { CountsResult result self.old.faults self.new.faults }
-        ensures unchanged { Unchanged (history_of S.Store) (committed_of S.Store) (λ b. b.terms)
-            (IsHonest S.Store) self.old self.new }
-        ensures opened { HasCleanDisk (state S.Store self.new.conn)
-            → OnOk result (IsTrue (state S.Store self.new.conn).is_open) }
-        ensures honest { HasCleanDisk (state S.Store self.new.conn)
-            → IsTrue (state S.Store self.new.conn).is_open → IsHonest S.Store self.new }
-        ensures done { IsHonest S.Store self.new
-            → OnOk result (committed_of S.Store self.new ≡ history_of S.Store self.new) }
-        ensures left { IsHonest S.Store self.new
-            → OnErr result (committed_of S.Store self.new ≡ committed_of S.Store self.old) }
-        ensures none_pending { OnOk result (self.new.pending ≡ []) }
-        ensures crash { MayCommit S.Store self.old self.old self.new.conn }
-    {
+    fn commit(&mut self) -> Result<(), BookFault> {
         self.commit_all()
     }
 
@@ -577,19 +510,10 @@ impl<S: Alter> GroupCommit for SqlBook<S> {
 }
 
 impl<S: Alter> Book for SqlBook<S> {
-    ghost use Rattle.std.specs.Prelude.{◌++◌, ◌∷◌, ◌<◌, ◌==◌, find, IfOk, IfSome, IsTrue, OnErr};
-    ghost use Rattle.std.specs.Prelude.{OnOk, Contains, ⊤, refl};
-    ghost use Rattle.sqlite.specs.State.{HasCleanDisk};
-    ghost use Rattle.s10_wire.specs.Kind.{fits};
-    ghost use Rattle.s10_history.specs.History.{find_entry, entry_at, ranges_of, is_closed};
-    ghost use Rattle.s10_history.specs.History.{is_open_after, overlaps};
-    ghost use Rattle.s10_history.specs.Issues.{last_issue_of, candidate_of, candidate_after_of};
-    ghost use Rattle.s10_history.specs.Issues.{size_of};
-    ghost use Rattle.s10_history.specs.Usage.{usage_of};
-    ghost use Rattle.s10_book.specs.Rules.{MayFollow};
-    ghost use Rattle.s10_book.specs.Book.{Grows, Unchanged};
-    ghost use Rattle.s10_ledger.specs.Ledger.{history_of, committed_of, with_pending};
-    ghost use Rattle.s10_ledger.specs.Ledger.{LeavesCommitted, MayCommit};
+    ghost use Rattle.std.specs.Prelude.{⊤, refl};
+    ghost use Rattle.s10_ledger.specs.Ledger.{history_of, committed_of};
+    ghost use Rattle.s10_ledger.specs.Ledger.{IsOverCleanDisk, MayFind};
+    ghost use Rattle.s10_ledger.specs.Found.{finds_committed};
 
     ghost history = { history_of S.Store };
 
@@ -603,9 +527,15 @@ impl<S: Alter> Book for SqlBook<S> {
 
     ghost honest = { IsHonest S.Store };
 
+    ghost clean = { IsOverCleanDisk S.Store };
+
+    ghost may_find = { MayFind S.Store };
+
     ghost legal = { λ b h. h.legal };
 
     ghost first = { λ b honest. (b.pending, refl) };
+
+    ghost found = { finds_committed _ S.Store.settled };
 
     fn settings(&self) -> Settings {
         self.settings
@@ -619,86 +549,35 @@ impl<S: Alter> Book for SqlBook<S> {
         self.index.day()
     }
 
-    fn find(&mut self, customer: u32, number: u32) -> Result<Option<Entry>, BookFault>
-        ensures faults { CountsResult result self.old.faults self.new.faults }
-        ensures unchanged { Unchanged (history_of S.Store) (committed_of S.Store) (λ b. b.terms)
-            (IsHonest S.Store) self.old self.new }
-        ensures opened { HasCleanDisk (state S.Store self.new.conn)
-            → OnOk result (IsTrue (state S.Store self.new.conn).is_open) }
-        ensures crash { LeavesCommitted S.Store self.old.conn self.new.conn }
-        ensures answer { IsHonest S.Store self.new
-            → IfOk result (λ e. e ≡ find_entry (history_of S.Store self.old) customer number) }
-        ensures fits { IfOk result
-            (λ found. IfSome found (λ e. IsTrue (fits e.request.body e.outcome))) }
-    {
+    fn find(&mut self, customer: u32, number: u32) -> Result<Option<Entry>, BookFault> {
         if let Err(fault) = self.ask_again() {
             return Err(fault);
         }
         Ok(self.index.find(customer, number))
     }
 
-    fn entry(&mut self, at: u32) -> Result<Option<Entry>, BookFault>
-        ensures faults { CountsResult result self.old.faults self.new.faults }
-        ensures unchanged { Unchanged (history_of S.Store) (committed_of S.Store) (λ b. b.terms)
-            (IsHonest S.Store) self.old self.new }
-        ensures opened { HasCleanDisk (state S.Store self.new.conn)
-            → OnOk result (IsTrue (state S.Store self.new.conn).is_open) }
-        ensures crash { LeavesCommitted S.Store self.old.conn self.new.conn }
-        ensures answer { IsHonest S.Store self.new
-            → IfOk result (λ e. e ≡ entry_at (history_of S.Store self.old) at) }
-    {
+    fn entry(&mut self, at: u32) -> Result<Option<Entry>, BookFault> {
         if let Err(fault) = self.ask_again() {
             return Err(fault);
         }
         Ok(self.index.entry(at))
     }
 
-    fn range(&mut self, num: u32) -> Result<Option<Range>, BookFault>
-        ensures faults { CountsResult result self.old.faults self.new.faults }
-        ensures unchanged { Unchanged (history_of S.Store) (committed_of S.Store) (λ b. b.terms)
-            (IsHonest S.Store) self.old self.new }
-        ensures opened { HasCleanDisk (state S.Store self.new.conn)
-            → OnOk result (IsTrue (state S.Store self.new.conn).is_open) }
-        ensures crash { LeavesCommitted S.Store self.old.conn self.new.conn }
-        ensures answer { IsHonest S.Store self.new
-            → IfOk result
-            (λ r. r ≡ find (λ x. x.num == num) (ranges_of (history_of S.Store self.old))) }
-    {
+    fn range(&mut self, num: u32) -> Result<Option<Range>, BookFault> {
         if let Err(fault) = self.ask_again() {
             return Err(fault);
         }
         Ok(self.index.ranges().range_by_number(num))
     }
 
-    fn closed(&mut self, num: u32) -> Result<bool, BookFault>
-        ensures faults { CountsResult result self.old.faults self.new.faults }
-        ensures unchanged { Unchanged (history_of S.Store) (committed_of S.Store) (λ b. b.terms)
-            (IsHonest S.Store) self.old self.new }
-        ensures opened { HasCleanDisk (state S.Store self.new.conn)
-            → OnOk result (IsTrue (state S.Store self.new.conn).is_open) }
-        ensures crash { LeavesCommitted S.Store self.old.conn self.new.conn }
-        ensures answer { IsHonest S.Store self.new
-            → IfOk result (λ b. b ≡ is_closed (history_of S.Store self.old) num) }
-    {
+    fn closed(&mut self, num: u32) -> Result<bool, BookFault> {
         if let Err(fault) = self.ask_again() {
             return Err(fault);
         }
         Ok(self.index.ranges().is_closed(num))
     }
 
-    fn next_range(&mut self, held: &HolderKey, after: u32) -> Result<Option<Range>, BookFault>
-        ensures faults { CountsResult result self.old.faults self.new.faults }
-        ensures unchanged { Unchanged (history_of S.Store) (committed_of S.Store) (λ b. b.terms)
-            (IsHonest S.Store) self.old self.new }
-        ensures opened { HasCleanDisk (state S.Store self.new.conn)
-            → OnOk result (IsTrue (state S.Store self.new.conn).is_open) }
-        ensures crash { LeavesCommitted S.Store self.old.conn self.new.conn }
-        ensures above { IfOk result (λ found. IfSome found (λ r. after < r.num)) }
-        ensures answer { IsHonest S.Store self.new
-            → IfOk result (λ found. found ≡ find (is_open_after (history_of S.Store self.old) after
-            held.now.holder held.now.service held.now.country)
-            (ranges_of (history_of S.Store self.old))) }
-    {
+    fn next_range(&mut self, held: &HolderKey, after: u32) -> Result<Option<Range>, BookFault> {
         if let Err(fault) = self.ask_again() {
             return Err(fault);
         }
@@ -709,18 +588,7 @@ impl<S: Alter> Book for SqlBook<S> {
         Ok(next)
     }
 
-    fn covering(&mut self, span: &SerialSpan) -> Result<Option<Range>, BookFault>
-        ensures faults { CountsResult result self.old.faults self.new.faults }
-        ensures unchanged { Unchanged (history_of S.Store) (committed_of S.Store) (λ b. b.terms)
-            (IsHonest S.Store) self.old self.new }
-        ensures opened { HasCleanDisk (state S.Store self.new.conn)
-            → OnOk result (IsTrue (state S.Store self.new.conn).is_open) }
-        ensures crash { LeavesCommitted S.Store self.old.conn self.new.conn }
-        ensures answer { IsHonest S.Store self.new
-            → IfOk result (λ found. found
-            ≡ find (overlaps span.now.service span.now.country span.now.first span.now.last)
-            (ranges_of (history_of S.Store self.old))) }
-    {
+    fn covering(&mut self, span: &SerialSpan) -> Result<Option<Range>, BookFault> {
         if let Err(fault) = self.ask_again() {
             return Err(fault);
         }
@@ -731,54 +599,21 @@ impl<S: Alter> Book for SqlBook<S> {
         Ok(found)
     }
 
-    fn last_issue(&mut self, id: &Id) -> Result<Option<Issue>, BookFault>
-        ensures faults { CountsResult result self.old.faults self.new.faults }
-        ensures unchanged { Unchanged (history_of S.Store) (committed_of S.Store) (λ b. b.terms)
-            (IsHonest S.Store) self.old self.new }
-        ensures opened { HasCleanDisk (state S.Store self.new.conn)
-            → OnOk result (IsTrue (state S.Store self.new.conn).is_open) }
-        ensures crash { LeavesCommitted S.Store self.old.conn self.new.conn }
-        ensures answer { IsHonest S.Store self.new
-            → IfOk result (λ i. i ≡ last_issue_of (history_of S.Store self.old) id.now) }
-    {
+    fn last_issue(&mut self, id: &Id) -> Result<Option<Issue>, BookFault> {
         if let Err(fault) = self.ask_again() {
             return Err(fault);
         }
         Ok(self.index.last_issue(id))
     }
 
-    fn candidate(&mut self, range: &Range) -> Result<Candidate, BookFault>
-        requires { IsHonest S.Store self.old → Contains (ranges_of (history_of S.Store self.old))
-            range.now }
-        ensures faults { CountsResult result self.old.faults self.new.faults }
-        ensures unchanged { Unchanged (history_of S.Store) (committed_of S.Store) (λ b. b.terms)
-            (IsHonest S.Store) self.old self.new }
-        ensures opened { HasCleanDisk (state S.Store self.new.conn)
-            → OnOk result (IsTrue (state S.Store self.new.conn).is_open) }
-        ensures crash { LeavesCommitted S.Store self.old.conn self.new.conn }
-        ensures answer { IsHonest S.Store self.new
-            → IfOk result (λ c. c ≡ candidate_of (history_of S.Store self.old) range.now) }
-    {
+    fn candidate(&mut self, range: &Range) -> Result<Candidate, BookFault> {
         if let Err(fault) = self.ask_again() {
             return Err(fault);
         }
         Ok(self.index.candidate_after(range, 0))
     }
 
-    fn candidate_after(&mut self, range: &Range, issued: u8) -> Result<Candidate, BookFault>
-        requires there { IsHonest S.Store self.old
-            → Contains (ranges_of (history_of S.Store self.old)) range.now }
-        requires fewer { issued < size_of range.now }
-        ensures faults { CountsResult result self.old.faults self.new.faults }
-        ensures unchanged { Unchanged (history_of S.Store) (committed_of S.Store) (λ b. b.terms)
-            (IsHonest S.Store) self.old self.new }
-        ensures opened { HasCleanDisk (state S.Store self.new.conn)
-            → OnOk result (IsTrue (state S.Store self.new.conn).is_open) }
-        ensures crash { LeavesCommitted S.Store self.old.conn self.new.conn }
-        ensures answer { IsHonest S.Store self.new
-            → IfOk result (λ c. c ≡ candidate_after_of (history_of S.Store self.old) range.now
-            issued) }
-    {
+    fn candidate_after(&mut self, range: &Range, issued: u8) -> Result<Candidate, BookFault> {
         if let Err(fault) = self.ask_again() {
             return Err(fault);
         }
@@ -786,19 +621,7 @@ impl<S: Alter> Book for SqlBook<S> {
     }
 
     /// Commits the pending calls first, since the usage is counted in the tables.
-    fn usage(&mut self, range: &Range, day: u32) -> Result<Usage, BookFault>
-        requires { IsHonest S.Store self.old → Contains (ranges_of (history_of S.Store self.old))
-            range.now }
-        ensures faults { CountsResult result self.old.faults self.new.faults }
-        ensures unchanged { Unchanged (history_of S.Store) (committed_of S.Store) (λ b. b.terms)
-            (IsHonest S.Store) self.old self.new }
-        ensures opened { HasCleanDisk (state S.Store self.new.conn)
-            → OnOk result (IsTrue (state S.Store self.new.conn).is_open) }
-        ensures crash { MayCommit S.Store self.old self.old self.new.conn }
-        ensures answer { IsHonest S.Store self.new
-            → IfOk result (λ u. u ≡ usage_of (history_of S.Store self.old) range.now day
-            self.old.terms.interval) }
-    {
+    fn usage(&mut self, range: &Range, day: u32) -> Result<Usage, BookFault> {
         if let Err(fault) = self.commit_all() {
             return Err(fault);
         }
@@ -807,32 +630,7 @@ impl<S: Alter> Book for SqlBook<S> {
 
     /// Commits the call, in one transaction with all pending calls before it. On an error the
     /// history and the pending calls are unchanged, and an honest book has committed none of them.
-    ///
-    /// If the disk is clean afterwards, a stop leaves what it could leave before the call, or the
-    /// committed calls of an honest book, followed by all its pending calls and the new one.
-    fn keep(&mut self, entry: Entry) -> Result<(), BookFault>
-        requires { IsHonest S.Store self.old → MayFollow (history_of S.Store self.old)
-            self.old.terms entry }
-        ensures faults { CountsResult result self.old.faults self.new.faults }
-        ensures was_honest { IsHonest S.Store self.new → IsHonest S.Store self.old }
-        ensures same_terms { IsHonest S.Store self.new → self.new.terms ≡ self.old.terms }
-        ensures opened { HasCleanDisk (state S.Store self.new.conn)
-            → OnOk result (IsTrue (state S.Store self.new.conn).is_open) }
-        ensures crash { MayCommit S.Store self.old (with_pending self.old entry) self.new.conn }
-        ensures ok { IsHonest S.Store self.new
-            → OnOk result (history_of S.Store self.new ≡ history_of S.Store self.old ++ entry
-            ∷ []) }
-        ensures err { IsHonest S.Store self.new
-            → OnErr result (history_of S.Store self.new ≡ history_of S.Store self.old) }
-        ensures stays_committed { IsHonest S.Store self.new
-            → Grows (committed_of S.Store self.old) (committed_of S.Store self.new) }
-        ensures committed { IsHonest S.Store self.new
-            → OnOk result (committed_of S.Store self.new ≡ history_of S.Store self.new) }
-        ensures left { IsHonest S.Store self.new
-            → OnErr result (committed_of S.Store self.new ≡ committed_of S.Store self.old) }
-        ensures none_pending { OnOk result (self.new.pending ≡ []) }
-        ensures same_pending { OnErr result (self.new.pending ≡ self.old.pending) }
-    {
+    fn keep(&mut self, entry: Entry) -> Result<(), BookFault> {
         if let Err(fault) = self.ask_again() {
             return Err(fault);
         }

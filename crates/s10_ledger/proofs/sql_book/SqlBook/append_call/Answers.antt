@@ -41,3 +41,8 @@ pub returns-clause-err : goal.returns-clause-err
 returns-clause-err g c = rw (c.counted.ensures.same, ← c.self.view_is)
     (calls_if_left c.append_pending-held.result c.self.inside.pending.items
     c.append_pending-held.new.pending.items c.append_pending-held.ensures.left)
+
+pub returns-clause-honest : goal.returns-clause-honest
+returns-clause-honest g c = λ clean opened. sound_is_honest g.S.Store c.self.inside.conn
+    c.self.inside.settings c.append_pending-held.new.index c.append_pending-held.new.pending.items
+    c.self.inside.answered c.counted.new.faults (invariant_of-self g c) clean opened

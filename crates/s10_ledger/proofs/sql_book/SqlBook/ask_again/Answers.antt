@@ -1,9 +1,11 @@
-use Rattle.std.proofs.Common.{rules, length, arith}
+use Rattle.std.proofs.Common.{rules, length}
 use Rattle.s10_history.specs.History.{day_of}
+use Rattle.s10_book.proofs.Calls.{Unchanged-refl}
 use Rattle.s10_ledger.specs.Ledger.{Ledger}
 use Rattle.s10_ledger.specs.Pending.{committed_among}
 use Rattle.s10_ledger.proofs.BookLemmas.{same_tables, if_answered, read_keeps}
 use Rattle.s10_ledger.proofs.PendingLemmas.{ledger_of, sound_after_read, sound_is_honest}
+use Rattle.s10_ledger.proofs.PendingLemmas.{honest_if_ok}
 use Rattle.s10_ledger.proofs.sql_book.SqlBook.ask_again.Goals as goal
 
 pub invariant_of-self : goal.invariant_of-self
@@ -19,7 +21,8 @@ returns-clause-unchanged g c =
     let old : Ledger g.row.S.Denot = ledger_of c.self.inside.conn c.self.inside.settings
     c.self.inside.index c.self.inside.pending.items c.self.inside.faults in
     rw (← c.self.view_is) (read_keeps g.S.Store old c.ask-asked.new.conn c.counted.new.faults
-    c.ask-asked.ensures.leaves c.self.invariant.settled c.self.invariant.ledger)
+    c.ask-asked.ensures.leaves c.ask-asked.ensures.spares c.self.invariant.settled
+    c.self.invariant.ledger)
 
 pub returns-clause-same : goal.returns-clause-same
 returns-clause-same g c =
@@ -29,22 +32,16 @@ returns-clause-same g c =
     c.self.invariant.settled c.self.invariant.ledger
     honest.clean honest.is_open)
 
-pub returns-clause-crash : goal.returns-clause-crash
-returns-clause-crash g c = rw (← c.self.view_is) c.ask-asked.ensures.spares
+pub returns-clause-opened : goal.returns-clause-opened
+returns-clause-opened g c = rw c.counted.ensures.same (honest_if_ok g.S.Store c.ask-asked.new.conn
+    c.self.inside.settings c.self.inside.index c.self.inside.pending.items c.is_ok-answered.result
+    c.counted.new.faults c.ask-asked.result (invariant_of-self g c) c.ask-asked.ensures.opened)
 
-pub returns-clause-clean : goal.returns-clause-clean
-returns-clause-clean g c = rw (← c.self.view_is) c.ask-asked.ensures.leaves.clean
+pub returns-then-self-clause-unchanged : goal.returns-then-self-clause-unchanged
+returns-then-self-clause-unchanged g c = Unchanged-refl c.args.self.now
 
 pub returns-then-self-clause-opened : goal.returns-then-self-clause-opened
-returns-then-self-clause-opened g c = search rules
-
-pub returns-then-self-clause-crash : goal.returns-then-self-clause-crash
-returns-then-self-clause-crash g c = λ clean db left. left
-
-pub returns-then-self-clause-clean : goal.returns-then-self-clause-clean
-returns-then-self-clause-clean g c = omega arith
-
-pub returns-clause-honest : goal.returns-clause-honest
-returns-clause-honest g c = λ clean opened. sound_is_honest g.S.Store c.ask-asked.new.conn
-    c.self.inside.settings c.self.inside.index c.self.inside.pending.items c.is_ok-answered.result
-    c.counted.new.faults (invariant_of-self g c) clean opened
+returns-then-self-clause-opened g c = rw (← c.self.view_is) (λ clean. sound_is_honest g.S.Store
+    c.self.inside.conn c.self.inside.settings c.self.inside.index c.self.inside.pending.items
+    c.self.inside.answered c.self.inside.faults c.self.invariant clean
+    (c.self.invariant.opened (search rules) clean))

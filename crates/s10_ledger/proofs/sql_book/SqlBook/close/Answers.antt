@@ -1,7 +1,8 @@
-use Rattle.std.proofs.Common.{◌≡◌, ◌∙◌, Result, Ok, Err, OnOk, List}
+use Rattle.std.proofs.Common.{◌≡◌, ◌∙◌, Result, Ok, Err, OnOk, List, sym}
 use Rattle.sqlite.specs.Held.{state}
 use Rattle.s10_history.specs.declared.entry.Entry.{Entry}
-use Rattle.s10_ledger.proofs.BookLemmas.{ledger_again}
+use Rattle.s10_ledger.specs.Ledger.{history_of}
+use Rattle.s10_ledger.proofs.BookLemmas.{ledger_again, finds_the_same}
 use Rattle.s10_ledger.proofs.sql_book.SqlBook.close.Goals as goal
 
 then_same : {T E : Type 0} (r : Result T E) (a b c : List Entry) → OnOk r (a ≡ b) → b ≡ c
@@ -36,6 +37,8 @@ pub returns-clause-same : goal.returns-clause-same
 returns-clause-same g c = λ none. c.into_connection-connection.ensures.same
     ∙ c.commit_rest-committed.ensures.same none
 
-pub returns-clause-crash : goal.returns-clause-crash
-returns-clause-crash g c =
-    rw c.into_connection-connection.ensures.same c.commit_rest-committed.ensures.crash
+pub returns-clause-stop : goal.returns-clause-stop
+returns-clause-stop g c = finds_the_same g.S.Store c.args.self c.commit_rest-committed.new.self
+    (record c.args.self { conn = c.into_connection-connection.result })
+    (history_of g.S.Store c.args.self) c.into_connection-connection.ensures.same
+    (sym c.commit_rest-committed.ensures.same_terms) c.commit_rest-committed.ensures.unchanged.stop

@@ -1,10 +1,12 @@
-use Rattle.std.proofs.Common.{arith, refl}
+use Rattle.std.proofs.Common.{◌++◌, arith, refl}
 use Rattle.sqlite.specs.State.{HasCleanDisk}
 use Rattle.sqlite.specs.Held.{state}
-use Rattle.s10_ledger.proofs.BookLemmas.{if_answered}
+use Rattle.s10_ledger.specs.Ledger.{history_in}
+use Rattle.s10_ledger.specs.Pending.{calls_of}
+use Rattle.s10_ledger.proofs.BookLemmas.{if_answered, may_find_also}
 use Rattle.s10_ledger.proofs.PendingLemmas.{sound_after_write, same_after_write, sound_is_honest}
 use Rattle.s10_ledger.proofs.PendingLemmas.{calls_if_emptied, unwritten_history, written_in}
-use Rattle.s10_ledger.proofs.PendingLemmas.{grows_after_write}
+use Rattle.s10_ledger.proofs.PendingLemmas.{grows_after_write, honest_if_ok, ledger_of}
 use Rattle.s10_statements.proofs.CrashLemmas.{either}
 use Rattle.s10_ledger.proofs.sql_book.SqlBook.commit_pending.Goals as goal
 
@@ -44,6 +46,24 @@ returns-clause-unchanged g c =
           (λ so clean. if_answered c.commit_calls-written.result _ c.is_ok-answered.result
           c.is_ok-answered.ensures.value (w.opened clean) so)
           c.commit_calls-written.result w.ok w.err h.clean h.is_open;
+      stop = may_find_also g.S.Store (ledger_of c.self.inside.conn c.self.inside.settings
+          c.self.inside.index c.self.inside.pending.items c.self.inside.faults)
+          (ledger_of c.commit_calls-written.new.conn c.self.inside.settings c.self.inside.index
+          c.commit_calls-written.new.pending.items c.counted.new.faults)
+          (history_in (state g.S.Store c.self.inside.conn).now
+          ++ calls_of c.self.inside.pending.items) w.clean refl
+          (calls_of c.self.inside.pending.items, refl) (λ clean db left.
+          let was_clean : HasCleanDisk (state g.S.Store c.self.inside.conn) =
+          omega (arith, w.clean, clean) in
+          let was_open = (rw (← c.self.view_is) at c.requires) was_clean in
+          either (w.crash clean db left) (λ left. left) (λ made. (
+            sound_is_honest g.S.Store c.self.inside.conn c.self.inside.settings
+                c.self.inside.index c.self.inside.pending.items c.self.inside.answered
+                c.self.inside.faults c.self.invariant was_clean was_open,
+            written_in g.S.Store c.self.inside.conn c.self.inside.settings c.self.inside.index
+                c.self.inside.pending.items c.self.inside.answered db c.self.invariant was_clean
+                was_open made,
+          )));
     })
 
 pub returns-clause-left : goal.returns-clause-left
@@ -57,26 +77,8 @@ returns-clause-none_pending g c =
     rw c.counted.ensures.same (calls_if_emptied c.commit_calls-written.result
     c.commit_calls-written.new.pending.items c.commit_calls-written.ensures.emptied)
 
-pub returns-clause-clean : goal.returns-clause-clean
-returns-clause-clean g c = rw (← c.self.view_is) c.commit_calls-written.ensures.clean
-
-pub returns-clause-crash : goal.returns-clause-crash
-returns-clause-crash g c = rw (← c.self.view_is) (λ answered clean db left.
-    let conn = c.self.inside.conn in
-    let was_clean : HasCleanDisk (state g.S.Store conn) =
-    omega (arith, c.commit_calls-written.ensures.clean, clean) in
-    let was_open = answered was_clean in
-    either (c.commit_calls-written.ensures.crash clean db left) (λ left. left) (λ made. (
-      sound_is_honest g.S.Store conn c.self.inside.settings c.self.inside.index
-          c.self.inside.pending.items c.self.inside.answered c.self.inside.faults c.self.invariant
-          was_clean was_open,
-      written_in g.S.Store conn c.self.inside.settings c.self.inside.index
-          c.self.inside.pending.items c.self.inside.answered c.self.inside.faults db
-          c.self.invariant was_clean was_open made,
-    )))
-
-pub returns-clause-honest : goal.returns-clause-honest
-returns-clause-honest g c = λ clean opened. sound_is_honest g.S.Store
+pub returns-clause-opened : goal.returns-clause-opened
+returns-clause-opened g c = rw c.counted.ensures.same (honest_if_ok g.S.Store
     c.commit_calls-written.new.conn c.self.inside.settings c.self.inside.index
     c.commit_calls-written.new.pending.items c.is_ok-answered.result c.counted.new.faults
-    (invariant_of-self g c) clean opened
+    c.commit_calls-written.result (invariant_of-self g c) c.commit_calls-written.ensures.opened)

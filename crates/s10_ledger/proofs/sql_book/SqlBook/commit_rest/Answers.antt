@@ -1,4 +1,4 @@
-use Rattle.std.proofs.Common.{◌≡◌, [], inl, sym, arith}
+use Rattle.std.proofs.Common.{◌≡◌, [], sym, arith}
 use Rattle.std.proofs.lemmas.List.{append-nil}
 use Rattle.std.specs.Prelude.{vec_len}
 use Rattle.s10_book.proofs.Calls.{Unchanged-refl}
@@ -16,9 +16,6 @@ returns-clause-done g c = λ honest.
     (cc) (omega (arith, c.self.inside.pending.ok.0))) in
     rw none (sym (append-nil (committed_of g.S.Store c.args.self.now)))
 
-pub returns-clause-crash : goal.returns-clause-crash
-returns-clause-crash g c = λ clean db left. inl left
-
 pub returns-then-not-is_empty-clause-unchanged : goal.returns-then-not-is_empty-clause-unchanged
 returns-then-not-is_empty-clause-unchanged g c = c.commit_all.ensures.unchanged
 
@@ -29,9 +26,6 @@ returns-then-not-is_empty-clause-done g c = λ honest. all_are_committed g.S.Sto
 
 pub returns-then-not-is_empty-clause-left : goal.returns-then-not-is_empty-clause-left
 returns-then-not-is_empty-clause-left g c = c.commit_all.ensures.left
-
-pub returns-then-not-is_empty-clause-crash : goal.returns-then-not-is_empty-clause-crash
-returns-then-not-is_empty-clause-crash g c = c.commit_all.ensures.crash
 
 pub returns-then-not-is_empty-clause-same : goal.returns-then-not-is_empty-clause-same
 returns-then-not-is_empty-clause-same g c = λ none. absurd (some_calls c.self.inside.pending.items

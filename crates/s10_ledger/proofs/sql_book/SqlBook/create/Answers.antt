@@ -53,6 +53,7 @@ returns-clause-honest g c = rw c.over.ensures (λ clean opened.
     record {
       clean = clean;
       is_open = opened;
+      committed = c.create_tables.ensures.settled.committed clean opened;
       ledger = it;
       legal = subst (λ (h : List Entry). IsLegal h c.args.settings)
           (sym (append-nil (history_in db))) it.legal;

@@ -1,4 +1,4 @@
-use Rattle.std.proofs.Common.{inl, arith}
+use Rattle.std.proofs.Common.{arith}
 use Rattle.std.proofs.lemmas.Grind.{common_steps}
 use Rattle.s10_ledger.proofs.sql_book.SqlBook.make_room.Goals as goal
 
@@ -17,9 +17,6 @@ pub returns-then-len-ge-MAX_PENDING-clause-opened :
     goal.returns-then-len-ge-MAX_PENDING-clause-opened
 returns-then-len-ge-MAX_PENDING-clause-opened g c = c.commit_all.ensures.opened
 
-pub returns-then-len-ge-MAX_PENDING-clause-crash : goal.returns-then-len-ge-MAX_PENDING-clause-crash
-returns-then-len-ge-MAX_PENDING-clause-crash g c = c.commit_all.ensures.crash
-
 pub returns-clause-faults : goal.returns-clause-faults
 returns-clause-faults g c = c.ask_again.ensures.faults
 
@@ -28,6 +25,3 @@ returns-clause-unchanged g c = c.ask_again.ensures.unchanged
 
 pub returns-clause-opened : goal.returns-clause-opened
 returns-clause-opened g c = c.ask_again.ensures.opened
-
-pub returns-clause-crash : goal.returns-clause-crash
-returns-clause-crash g c = λ clean db left. inl (c.ask_again.ensures.crash clean db left)

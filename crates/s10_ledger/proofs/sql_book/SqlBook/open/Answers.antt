@@ -32,6 +32,7 @@ returns-in-Ok-clause-honest g c = rw c.over.ensures (λ clean opened.
     record {
       clean = clean;
       is_open = opened;
+      committed = c.ledger_in.ensures.settled.committed clean opened;
       ledger = it;
       legal = subst (λ (h : List Entry). IsLegal h c.in-Ok.opened.settings)
           (sym (append-nil (history_in (state g.S.Store c.ledger_in.new.conn).now))) it.legal;

@@ -1,7 +1,5 @@
-use Rattle.std.proofs.Common.{rules, List, arith, subst, sym}
+use Rattle.std.proofs.Common.{rules, List, subst, sym}
 use Rattle.std.specs.Prelude.{Contains}
-use Rattle.sqlite.specs.State.{HasCleanDisk}
-use Rattle.sqlite.specs.Held.{state}
 use Rattle.s10_book.proofs.Calls.{Unchanged-trans}
 use Rattle.s10_history.specs.declared.entry.Entry.{Entry}
 use Rattle.s10_history.specs.History.{ranges_of}
@@ -15,6 +13,9 @@ usage_committed-requires-clause-there g c = λ honest.
     let unchanged = c.in_default.ensures.unchanged in
     subst (λ (h : List Entry). Contains (ranges_of h) c.args.range.now)
     (sym (unchanged.same_history honest)) (c.requires (unchanged.was_honest honest))
+
+pub usage_committed-requires-clause-opened : goal.usage_committed-requires-clause-opened
+usage_committed-requires-clause-opened g c = λ clean. (c.in_default.ensures.opened clean).is_open
 
 pub returns-in-Err-clause-faults : goal.returns-in-Err-clause-faults
 returns-in-Err-clause-faults g c = c.in-Err.ensures.faults
@@ -44,13 +45,3 @@ returns-clause-answer g c = λ honest.
     let before = c.usage_committed.ensures.unchanged.was_honest honest in
     rw (unchanged.same_history before, unchanged.same_terms before)
     at (c.usage_committed.ensures.answer honest)
-
-pub returns-in-Err-clause-crash : goal.returns-in-Err-clause-crash
-returns-in-Err-clause-crash g c = c.in-Err.ensures.crash
-
-pub returns-clause-crash : goal.returns-clause-crash
-returns-clause-crash g c = λ clean db left.
-    let was_clean : HasCleanDisk (state g.S.Store c.commit_all.new.self.conn) =
-    omega (arith, c.usage_committed.ensures.clean, clean) in
-    c.in_default.ensures.crash was_clean db (c.usage_committed.ensures.crash
-    c.in_default.ensures.opened clean db left)
