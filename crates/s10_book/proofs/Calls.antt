@@ -3,7 +3,7 @@ use Rattle.std.proofs.Common.{◌≡◌, ◌++◌, ◌∙◌, refl, sym, ap, Lis
 use Rattle.std.proofs.Common.{append_assoc, ◌⊎◌, Option, Some, subst, inl, inr, ⊎_elim}
 use Rattle.s10_history.specs.declared.entry.Entry.{Entry}
 use Rattle.s10_history.specs.Settings.{Terms}
-use Rattle.s10_book.specs.Book.{Grows, FindsAfter, IsFoundBetween, Unchanged}
+use Rattle.s10_book.specs.Book.{Grows, FindsAfter, IsPerhapsWith, Unchanged}
 
 pub grows_none : (xs : List Entry) → Grows xs xs
 grows_none xs = ([], sym (append-nil xs))
@@ -18,10 +18,10 @@ grows_trans xs ys zs first second = (
   second.1 ∙ (ap (λ l. l ++ second.0) first.1 ∙ append_assoc xs first.0 second.0),
 )
 
-pub FindsAfter-refl : {B : Type 0} {committed : B → List Entry} {honest clean : B → Type 0}
-    {may_find : B → Option (List Entry) → Type 0} (a : B) (whole : List Entry)
-    → FindsAfter committed honest clean may_find a a whole
-FindsAfter-refl {B} {committed} {honest} {clean} {may_find} a whole = record {
+pub FindsAfter-refl : {B : Type 0} {honest clean : B → Type 0}
+    {may_find : B → Option (List Entry) → Type 0} (a : B) (IsSuch : List Entry → Type 0)
+    → FindsAfter honest clean may_find a a IsSuch
+FindsAfter-refl {B} {honest} {clean} {may_find} a IsSuch = record {
   was_clean = λ c. c;
   finds = λ c found may. inl may;
 }
@@ -35,38 +35,25 @@ Unchanged-refl {B} {history} {committed} {terms} {honest} {clean} {may_find} a =
       same_history = λ _. refl;
       same_terms = λ _. refl;
       stays_committed = λ _. grows_none (committed a);
-      stop = FindsAfter-refl a (history a);
+      stop = FindsAfter-refl a (λ calls. calls ≡ history a);
     }
 
--- A call that left the book unchanged, and then one after which an opening may find more calls.
+-- A call that left the book unchanged, and then one after which an opening may find such calls.
 pub finds_after_unchanged : {B : Type 0} {history committed : B → List Entry} {terms : B → Terms}
     {honest clean : B → Type 0} {may_find : B → Option (List Entry) → Type 0} {a b c : B}
-    (more : List Entry) → Unchanged history committed terms honest clean may_find a b
-    → FindsAfter committed honest clean may_find b c (history b ++ more)
-    → FindsAfter committed honest clean may_find a c (history a ++ more)
+    (IsThen IsSuch : List Entry → Type 0)
+    → Unchanged history committed terms honest clean may_find a b
+    → FindsAfter honest clean may_find b c IsThen
+    → (honest a → (calls : List Entry) → calls ≡ history a → IsSuch calls)
+    → (honest b → (calls : List Entry) → IsThen calls → IsSuch calls)
+    → FindsAfter honest clean may_find a c IsSuch
 finds_after_unchanged {B} {history} {committed} {terms} {honest} {clean} {may_find} {a} {b} {c}
-    more first second = record {
+    IsThen IsSuch first second same such = record {
       was_clean = λ d. first.stop.was_clean (second.was_clean d);
       finds = λ d found may. ⊎_elim
-          (λ was. ⊎_elim inl (λ it. inr (
-            it.0,
-            (
-              it.1.0,
-              it.1.1,
-              it.1.2,
-              grows_trans it.1.0 (history a) (history a ++ more) it.1.3 (more, refl),
-            ),
-          ))
+          (λ was. ⊎_elim inl (λ it. inr (it.0, (it.1.0, it.1.1, same it.0 it.1.0 it.1.2)))
           (first.stop.finds (second.was_clean d) found was))
-          (λ it. inr (
-            first.was_honest it.0,
-            (
-              it.1.0,
-              it.1.1,
-              grows_trans (committed a) (committed b) it.1.0 (first.stays_committed it.0) it.1.2,
-              subst (λ (h : List Entry). Grows it.1.0 (h ++ more)) (first.same_history it.0) it.1.3,
-            ),
-          ))
+          (λ it. inr (first.was_honest it.0, (it.1.0, it.1.1, such it.0 it.1.0 it.1.2)))
           (second.finds d found may);
     }
 
@@ -82,21 +69,21 @@ Unchanged-trans {B} {history} {committed} {terms} {honest} {clean} {may_find} {a
       same_terms = λ h. second.same_terms h ∙ first.same_terms (second.was_honest h);
       stays_committed = λ h. grows_trans (committed a) (committed b) (committed c)
           (first.stays_committed (second.was_honest h)) (second.stays_committed h);
-      stop = record {
-        was_clean = λ d. first.stop.was_clean (second.stop.was_clean d);
-        finds = λ d found may. ⊎_elim (first.stop.finds (second.stop.was_clean d) found)
-            (λ it. inr (
-              first.was_honest it.0,
-              (
-                it.1.0,
-                it.1.1,
-                grows_trans (committed a) (committed b) it.1.0 (first.stays_committed it.0) it.1.2,
-                subst (Grows it.1.0) (first.same_history it.0) it.1.3,
-              ),
-            ))
-            (second.stop.finds d found may);
-      };
+      stop = finds_after_unchanged (λ calls. calls ≡ history b) (λ calls. calls ≡ history a) first
+          second.stop (λ h calls same. same) (λ h calls same. same ∙ first.same_history h);
     }
+
+-- The same for one more call at the end.
+pub finds_one_more : {B : Type 0} {history committed : B → List Entry} {terms : B → Terms}
+    {honest clean : B → Type 0} {may_find : B → Option (List Entry) → Type 0} {a b c : B}
+    (entry : Entry) → Unchanged history committed terms honest clean may_find a b
+    → FindsAfter honest clean may_find b c (IsPerhapsWith (history b) entry)
+    → FindsAfter honest clean may_find a c (IsPerhapsWith (history a) entry)
+finds_one_more {B} {history} {committed} {terms} {honest} {clean} {may_find} {a} {b} {c} entry first
+    second = finds_after_unchanged (IsPerhapsWith (history b) entry)
+    (IsPerhapsWith (history a) entry) first second (λ h calls same. inl same)
+    (λ h calls is. subst (λ (l : List Entry). IsPerhapsWith l entry calls) (first.same_history h)
+    is)
 
 -- A list that equals itself followed by more is followed by nothing.
 no_more : (xs ys zs : List Entry) → xs ≡ (xs ++ ys) ++ zs → ys ≡ []
@@ -124,13 +111,3 @@ whole_kept {B} {history} {committed} {terms} {honest} {clean} {may_find} a b unc
     =
     whole_stays (committed a) (history a) (committed b) (history b) whole (unchanged.same_history h)
     (unchanged.stays_committed h) first
-
--- The calls of a book in memory, after it kept one more.
-pub found_longer : (h after : List Entry) (e : Entry) → after ≡ h ++ e ∷ []
-    → (found : Option (List Entry)) → found ≡ Some after → IsFoundBetween h (h ++ e ∷ []) found
-found_longer h after e is found may = (
-  after,
-  may,
-  (e ∷ [], is),
-  ([], sym is ∙ sym (append-nil after)),
-)

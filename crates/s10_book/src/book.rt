@@ -30,7 +30,7 @@ pub trait Book {
     ghost use Rattle.s10_history.specs.Usage.{usage_of};
     ghost use Rattle.s10_book.specs.Rules.{MayFollow, IsLegal};
     ghost use Rattle.s10_book.specs.BookFault.{CountsResult};
-    ghost use Rattle.s10_book.specs.Book.{Grows, FindsAfter, Unchanged};
+    ghost use Rattle.s10_book.specs.Book.{Grows, FindsAfter, IsPerhapsWith, Unchanged};
     ghost use Rattle.std.specs.Prelude.{◌≡◌, ℕ, ◌++◌, ◌∷◌, [], ◌<◌, ◌≤◌, ◌==◌, List, length, find};
     ghost use Rattle.std.specs.Prelude.{IfOk, IfSome, IsTrue, OnErr, OnOk, Contains, slice_get};
     ghost use Rattle.std.specs.Prelude.{Option, Some};
@@ -256,9 +256,8 @@ pub trait Book {
         ensures committed { durable → honest self.new
             → OnOk result (committed self.new ≡ history self.new) }
         ensures opened { clean self.new → OnOk result (honest self.new) }
-        ensures stop { FindsAfter committed honest clean may_find self.old self.new (history
-            self.old
-            ++ entry ∷ []) };
+        ensures stop { FindsAfter honest clean may_find self.old self.new
+            (IsPerhapsWith (history self.old) entry) };
 
     // The history of an honest book is legal.
     ghost legal: { (book : Self) → honest book → IsLegal (history book) (terms book) };

@@ -9,7 +9,7 @@ use s10_history::Entry;
 pub trait GroupCommit: Book {
     ghost use Rattle.s10_book.specs.Rules.{MayFollow};
     ghost use Rattle.s10_book.specs.BookFault.{CountsResult};
-    ghost use Rattle.s10_book.specs.Book.{Grows, FindsAfter, Unchanged};
+    ghost use Rattle.s10_book.specs.Book.{Grows, FindsAfter, IsPerhapsWith, Unchanged};
     ghost use Rattle.s10_book.specs.GroupCommit.{IsCommittedCall};
     ghost use Rattle.std.specs.Prelude.{◌≡◌, ◌↔◌, ◌++◌, ◌∷◌, [], IsTrue, OnErr, OnOk};
 
@@ -32,8 +32,8 @@ pub trait GroupCommit: Book {
         ensures stays_committed { Self.honest self.new
             → Grows (Self.committed self.old) (Self.committed self.new) }
         ensures opened { Self.clean self.new → OnOk result (Self.honest self.new) }
-        ensures stop { FindsAfter Self.committed Self.honest Self.clean Self.may_find self.old
-            self.new (Self.history self.old ++ entry ∷ []) };
+        ensures stop { FindsAfter Self.honest Self.clean Self.may_find self.old self.new
+            (IsPerhapsWith (Self.history self.old) entry) };
 
     /// Commits all pending calls. After an error the committed calls of an honest book are the same
     /// as before.

@@ -134,8 +134,12 @@ module _ {B : Type 0} (faults : B → Faults) (honest : B → Type 0) (terms : B
     answered = [];
     answers = record {
       commit_result = Ok tt;
-      commits = inr (refl, refl, λ h. All-nil (HasCommittedReply (committed between.1)
-          (history between.1)));
+      commits = inr (
+        refl,
+        refl,
+        λ h. All-nil (HasCommittedReply (committed between.1)
+            (history between.1)),
+      );
       answers = answered_none;
     };
     are = are;
@@ -143,7 +147,7 @@ module _ {B : Type 0} (faults : B → Faults) (honest : B → Type 0) (terms : B
 
   pub one_failed : (fault : LinkFault) (turn : Turn) → Takes Handled old between (Err fault)
       → IsErrAnd turn (λ e. e ≡ fault) → ServesBatch faults honest terms history committed clean
-          may_find day 1 old
+      may_find day 1 old
       between (turn ∷ [])
   one_failed fault turn count_receive passed =
       unanswered (Err fault) (turn ∷ []) (failed Handled 1 old old [] taken_none between fault
@@ -152,7 +156,7 @@ module _ {B : Type 0} (faults : B → Faults) (honest : B → Type 0) (terms : B
 
   pub one_quiet : (found : Option Exchange) → Takes Handled old between (Ok found) → found ≡ None
       → ServesBatch faults honest terms history committed clean may_find day 1 old between (Ok
-          turns.Quiet ∷ [])
+      turns.Quiet ∷ [])
   one_quiet found count_receive is = unanswered (Ok tt) (Ok turns.Quiet ∷ [])
       (no_more Handled 1 old old [] taken_none between found (omega arith) count_receive is) refl
 
@@ -184,20 +188,29 @@ module _ {B : Type 0} (faults : B → Faults) (honest : B → Type 0) (terms : B
       → Takes Handled old between (Ok found) → found ≡ Some taken
       → (honest between.1 → committed between.1 ≡ history between.1)
       → Answers ⊤ (λ _. ⊤) between.0 trace (Ok tt) taken.from taken.packet taken.answer turn
-      → ServesBatch faults honest terms history committed clean may_find day 1 old (trace,
-          between.1) (turn ∷ [])
+      → ServesBatch faults honest terms history committed clean may_find day 1 old (
+        trace,
+        between.1,
+      ) (turn ∷ [])
   one_committed trace found taken turn count_receive is whole answers =
       let P : Option Exchange → Type 0 = λ o. Takes Handled old between (Ok o) in
       let handled = (subst P is count_receive).1 in
       one_served (trace, between.1) found taken (Ok tt) turn count_receive is
-      (inr (refl, refl, λ h. All-cons (HasCommittedReply (committed between.1) (history between.1))
-      taken []
-      (λ reply.
-          let asks = owed_asks (history between.1) taken.packet taken.answer reply
-          (handled.served h).answered.0 in
-          (asks.0, asks.1, ap (λ (l : List Entry). find_entry l asks.0.customer asks.0.number)
-          (whole h)))
-      (All-nil (HasCommittedReply (committed between.1) (history between.1)))))
+      (inr (
+        refl,
+        refl,
+        λ h. All-cons (HasCommittedReply (committed between.1) (history between.1))
+            taken []
+            (λ reply.
+            let asks = owed_asks (history between.1) taken.packet taken.answer reply
+            (handled.served h).answered.0 in (
+              asks.0,
+              asks.1,
+              ap (λ (l : List Entry). find_entry l asks.0.customer asks.0.number)
+                  (whole h),
+            ))
+            (All-nil (HasCommittedReply (committed between.1) (history between.1))),
+      ))
       (answered_committed (honest between.1) (AsksCommitted (committed between.1)
       (history between.1))
       between.0 trace taken.from taken.packet taken.answer turn answers)

@@ -86,7 +86,7 @@ module _ {B : Type 0} (faults : B → Faults) (honest : B → Type 0) (terms : B
 
   pub honest_batches : (old new : Trace × B) (batches : List (List Turn))
       → BatchesLead (IsBatch faults honest terms history committed clean may_find given) old batches
-          new
+      new
       → honest new.1 → honest old.1
   unfolding BatchesLead
   honest_batches old new [] same h = subst (λ (s : Trace × B). honest s.1) same h
@@ -169,12 +169,12 @@ module _ {B : Type 0} (faults : B → Faults) (honest : B → Type 0) (terms : B
 
     pub upto_batch : (ds : List Dated) (ans : List Answer) (day most : ℕ) (old new : Trace × B)
         (batch : List Turn) (it : ServesBatch faults honest terms history committed clean may_find
-            day most old new
+        day most old new
         batch) → honest new.1 → Upto ds ans old.1
         → Upto (ds ++ packets day it.taken) (ans ++ answers_of it.taken) new.1
     upto_batch ds ans day most old new batch it h upto =
         let between = honest_answered it.between.1 new.1 it.taken it.answers.commit_result
-      it.answers.commits h in
+        it.answers.commits h in
         let taken = upto_taken day ds ans old it.takes.handled it.taken it.takes.takes
         (subst honest it.takes.same between) upto in
         upto_answered (ds ++ packets day it.taken) (ans ++ answers_of it.taken) it.between.1 new.1
@@ -185,12 +185,12 @@ module _ {B : Type 0} (faults : B → Faults) (honest : B → Type 0) (terms : B
     pub upto_batches : (ds : List Dated) (ans : List Answer) (old new : Trace × B)
         (batches : List (List Turn))
         (lead : BatchesLead (IsBatch faults honest terms history committed clean may_find given) old
-            batches new)
+        batches new)
         → honest new.1 → Upto ds ans old.1
         → Upto (ds ++ deliveries_in faults honest terms history committed clean may_find old new
-            batches given
+        batches given
         lead) (ans ++ answers_in faults honest terms history committed clean may_find old new
-            batches given
+        batches given
         lead) new.1
     unfolding BatchesLead deliveries_in answers_in
     upto_batches ds ans old new [] same h upto =
@@ -198,10 +198,10 @@ module _ {B : Type 0} (faults : B → Faults) (honest : B → Type 0) (terms : B
         (subst (λ (s : Trace × B). Upto ds ans s.1) (sym same) upto)
     upto_batches ds ans old new (batch ∷ batches) (next, (day, is, most, it), rest) h upto =
         let more = deliveries_in faults honest terms history committed clean may_find next new
-            batches given
+        batches given
         rest in
         let told = answers_in faults honest terms history committed clean may_find next new batches
-            given rest in
+        given rest in
         of_lists ((ds ++ packets day it.taken) ++ more) (ds ++ (packets day it.taken ++ more))
         ((ans ++ answers_of it.taken) ++ told) (ans ++ (answers_of it.taken ++ told)) new.1
         (sym (append_assoc ds (packets day it.taken) more))
@@ -221,10 +221,10 @@ module _ {B : Type 0} (faults : B → Faults) (honest : B → Type 0) (terms : B
   -- Every reply that was sent is owed to a delivery by the calls that are committed at the end.
   owe : (old new : Trace × B) (batches : List (List Turn))
       (lead : BatchesLead (IsBatch faults honest terms history committed clean may_find given) old
-          batches new)
+      batches new)
       → honest new.1
       → All (IsOwedReply (committed new.1) (deliveries_in faults honest terms history committed
-          clean may_find old
+      clean may_find old
       new batches given lead)) (turns_in batches)
   unfolding BatchesLead deliveries_in
   owe old new [] same h = All-nil (IsOwedReply (committed new.1) [])
@@ -234,12 +234,12 @@ module _ {B : Type 0} (faults : B → Faults) (honest : B → Type 0) (terms : B
       batches rest h (here next.1)).stays_committed in
       let first = packets day it.taken in
       let more = deliveries_in faults honest terms history committed clean may_find next new batches
-          given rest in
+      given rest in
       All-append (IsOwedReply (committed new.1) (first ++ more)) batch (turns_in batches)
       (all_more (committed next.1) (committed new.1) first (first ++ more) batch grew
       (λ d inside. Contains-append_left first more d inside)
       (batch_owes faults honest terms history committed clean may_find day most old next batch it
-          then))
+      then))
       (all_more (committed new.1) (committed new.1) more (first ++ more) (turns_in batches)
       (grows_none (committed new.1)) (λ d inside. Contains-append_right first more d inside)
       (owe next new batches rest h))
@@ -247,11 +247,11 @@ module _ {B : Type 0} (faults : B → Faults) (honest : B → Type 0) (terms : B
   pub all_composed : ((book : B) → honest book → IsLegal (history book) (terms book))
       → (old new : Trace × B) (batches : List (List Turn))
       (lead : BatchesLead (IsBatch faults honest terms history committed clean may_find given) old
-          batches new)
+      batches new)
       → honest new.1
       → ServesAll faults honest terms history committed clean may_find old.1 new.1
       (deliveries_in faults honest terms history committed clean may_find old new batches given
-          lead)
+      lead)
       (answers_in faults honest terms history committed clean may_find old new batches given lead)
       (turns_in batches)
   all_composed legal old new batches lead h =

@@ -60,7 +60,7 @@ module _ {B F N : Type 0} (faults : B → Faults) (honest : B → Type 0) (terms
 
   handled : (day : ℕ) (old between new : B) (b : List ℕ) (answer : Answer) → LedOn day old between
       → Handles faults honest terms history committed clean may_find between new day b answer →
-          LedOn day old new
+      LedOn day old new
   handled day old between new b answer led handles = record {
     was_honest = λ h. led.was_honest (handles.was_honest h);
     same_terms = λ h. handles.same_terms h ∙ led.same_terms (handles.was_honest h);
@@ -74,7 +74,7 @@ module _ {B F N : Type 0} (faults : B → Faults) (honest : B → Type 0) (terms
   turned : (day : ℕ) (book : B) (old between new : Trace × B)
       (taken : Result (Option Exchange) LinkFault) (turn : Turn) → LedOn day book old.1
       → Takes (λ before after b answer. Handles faults honest terms history committed clean may_find
-          before after
+      before after
       day b answer) old between taken → AnswersTaken between new taken turn → LedOn day book new.1
   turned day book old between new (Ok None) turn led takes answers =
       still day book old.1 new.1 led (ap (λ (s : Trace × B). s.1) answers.0 ∙ takes.1)
@@ -86,7 +86,7 @@ module _ {B F N : Type 0} (faults : B → Faults) (honest : B → Type 0) (terms
 
   served : (day : ℕ) (book : B) (old new : Trace × B) (turn : Turn) → LedOn day book old.1
       → ServesOne faults honest terms history committed clean may_find day old new turn → LedOn day
-          book new.1
+      book new.1
   served day book old new turn led one = turned day book old one.between new one.taken turn led
       one.takes one.answers
 

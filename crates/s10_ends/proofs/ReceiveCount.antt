@@ -147,7 +147,7 @@ counts_after (Ok _) (turn ∷ ts) = omega arith
 pub batch_receives : {B : Type 0} (faults : B → Faults) (honest : B → Type 0) (terms : B → Terms)
     (history committed : B → List Entry) (clean : B → Type 0)
     (may_find : B → Option (List Entry) → Type 0) (day most : ℕ) (old new : Trace × B) (ts : List
-        Turn)
+    Turn)
     → ServesBatch faults honest terms history committed clean may_find day most old new ts
     → ReceivesAtMost most old.0 new.0 ts
 batch_receives faults honest terms history committed clean may_find day most old new ts batch =

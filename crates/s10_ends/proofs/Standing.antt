@@ -122,8 +122,12 @@ module _ (Honest : Type 0) (committed h : List Entry) (ds : List Dated) (day : �
       → Answers Honest Own old new commit_result to b answer turn
       → IsOwedReply committed ds turn
   turn_stands old new (Ok _) to b (Reply frame) turn done inside owed answers =
-      sent old new to frame turn answers ((b, day), inside, ⊎_elim
-      (λ same. owed_stands b frame same owed) (stands b frame owed) (done refl))
+      sent old new to frame turn answers (
+        (b, day),
+        inside,
+        ⊎_elim
+            (λ same. owed_stands b frame same owed) (stands b frame owed) (done refl),
+      )
   turn_stands old new (Err fault) to b (Reply frame) turn done inside owed answers = elim answers [
     | inl w ↦ sent old new to frame turn w.1 ((b, day), inside, stands b frame owed (w.0 at))
     | inr w ↦ held old new fault to turn w.1
@@ -153,7 +157,7 @@ module _ (Honest : Type 0) (committed h : List Entry) (ds : List Dated) (day : �
       {taken = ts} {answered = answered} next turn before answers) =
       All-push (IsOwedReply committed ds) answered turn
       (all_stand commit_result old between ts answered (first_of (IsDone commit_result) ts next
-          done)
+      done)
       (first_of (IsTakenAnswered h) ts next owed) (first_of IsInside ts next inside) before)
       (turn_stands between new commit_result next.from next.packet next.answer turn
       (last_of (IsDone commit_result) ts next done) (last_of IsInside ts next inside)
@@ -280,7 +284,7 @@ module _ {B : Type 0} (faults : B → Faults) (honest : B → Type 0) (terms : B
   -- after it.
   pub batch_owes : (most : ℕ) (old new : Trace × B) (turns : List Turn)
       (batch : ServesBatch faults honest terms history committed clean may_find day most old new
-          turns)
+      turns)
       → honest new.1 → All (IsOwedReply (committed new.1) (packets batch.taken)) turns
   batch_owes most old new turns batch h =
       let before = by_commit batch.between.1 new.1 batch.taken batch.answers.commit_result
@@ -296,7 +300,7 @@ module _ {B : Type 0} (faults : B → Faults) (honest : B → Type 0) (terms : B
       let all = all_stand (honest new.1) (committed new.1) (history new.1) ds day h
       batch.answers.commit_result batch.between.0 new.0 batch.taken batch.answered
       (all_done batch.between.1 new.1 batch.taken batch.answers.commit_result ds
-          batch.answers.commits h)
+      batch.answers.commits h)
       owed
       (inside_of batch.taken ds (λ d is. is)) batch.answers.answers in
       subst (λ (l : List Turn). All (IsOwedReply (committed new.1) ds) l) (sym batch.are)
@@ -305,7 +309,7 @@ module _ {B : Type 0} (faults : B → Faults) (honest : B → Type 0) (terms : B
   -- Every reply that a batch sent is one that the committed calls give.
   pub batch_stands : (most : ℕ) (old new : Trace × B) (turns : List Turn)
       → ServesBatch faults honest terms history committed clean may_find day most old new turns →
-          honest new.1
+      honest new.1
       → All (IsSentCommitted (committed new.1)) turns
   batch_stands most old new turns batch h =
       all_sent (committed new.1) (packets batch.taken) turns
@@ -314,6 +318,6 @@ module _ {B : Type 0} (faults : B → Faults) (honest : B → Type 0) (terms : B
   -- The same for a batch of one turn.
   pub turn_of_batch : (old new : Trace × B) (turn : Turn) → ServesBatch faults honest terms history
       committed clean may_find day 1 old new (turn ∷ []) → honest new.1 → IsSentCommitted (committed
-          new.1) turn
+      new.1) turn
   turn_of_batch old new turn batch h = All-head (IsSentCommitted (committed new.1)) turn []
       (batch_stands 1 old new (turn ∷ []) batch h)

@@ -11,10 +11,10 @@ use Rattle.s10_history.specs.declared.entry.Entry.{Entry}
 use Rattle.s10_history.specs.Settings.{Terms}
 use Rattle.s10_book.specs.declared.book_fault.BookFault.{BookFault}
 use Rattle.s10_book.specs.declared.faults.Faults.{Faults}
-use Rattle.s10_book.specs.Book.{Grows, FindsAfter, IsFoundBetween, Unchanged}
+use Rattle.s10_book.specs.Book.{Grows, FindsAfter, IsBetween, IsPerhapsWith, Unchanged}
 use Rattle.s10_book.specs.Once.{first_arrivals, applied_once}
 use Rattle.s10_book.specs.Rules.{IsLegal}
-use Rattle.s10_book.proofs.Calls.{grows_none, grows_trans}
+use Rattle.s10_book.proofs.Calls.{grows_none, grows_same, grows_trans, finds_after_unchanged}
 use Rattle.s10_ends.specs.declared.answer.Answer.{Answer}
 use Rattle.s10_ends.specs.declared.answer.Answer.TheVariants.{Reply, Dropped, Faulted}
 use Rattle.s10_ends.specs.declared.delivery.Delivery.{Delivery}
@@ -63,60 +63,80 @@ pub once_grows : (h after : List Entry) (ds : List Dated) (n : ℕ) → IsOnce h
 once_grows h after ds n once =
     let more = grows n h (first_arrivals (of_history h) once.0) in (more.0, once.2 ∙ more.1)
 
--- A call that kept no request: an opening may find what applying one would make.
-pub finds_once : {B : Type 0} {committed : B → List Entry} {honest clean : B → Type 0}
-    {may_find : B → Option (List Entry) → Type 0} (a b : B) {h : List Entry} (q : Request)
-    (day n : ℕ) → FindsAfter committed honest clean may_find a b h
-    → FindsAfter committed honest clean may_find a b (applied_once h ((q, day) ∷ []) n)
-finds_once {B} {committed} {honest} {clean} {may_find} a b {h} q day n stop = record {
-  was_clean = stop.was_clean;
-  finds = λ c found may. ⊎_elim inl (λ it. inr (it.0, (it.1.0, it.1.1, it.1.2,
-      grows_trans it.1.0 h (applied_once h ((q, day) ∷ []) n) it.1.3
-      (grows n h (first_arrivals (of_history h) ((q, day) ∷ [])))))) (stop.finds c found may);
-}
+-- What the history of an honest book is between.
+between_once : (committed h calls : List Entry) (q : Request) (day n : ℕ) → Grows committed h
+    → calls ≡ h → IsBetween committed (applied_once h ((q, day) ∷ []) n) calls
+between_once committed h calls q day n first same = (
+  subst (Grows committed) (sym same) first,
+  subst (λ (l : List Entry). Grows l (applied_once h ((q, day) ∷ []) n)) (sym same)
+      (grows n h (first_arrivals (of_history h) ((q, day) ∷ []))),
+)
 
--- A read, and then one after which an opening may find what a request makes.
-pub once_after_unchanged : {B : Type 0} {history committed : B → List Entry} {terms : B → Terms}
-    {honest clean : B → Type 0} {may_find : B → Option (List Entry) → Type 0} (a b c : B)
-    (q : Request) (day : ℕ) → Unchanged history committed terms honest clean may_find a b
-    → FindsAfter committed honest clean may_find b c
-    (applied_once (history b) ((q, day) ∷ []) (terms b).interval)
-    → FindsAfter committed honest clean may_find a c
-    (applied_once (history a) ((q, day) ∷ []) (terms a).interval)
-once_after_unchanged {B} {history} {committed} {terms} {honest} {clean} {may_find} a b c q day
-    first second = record {
-  was_clean = λ d. first.stop.was_clean (second.was_clean d);
-  finds = λ d found may. ⊎_elim
-      (λ was. (finds_once a b q day (terms a).interval first.stop).finds (second.was_clean d) found
-          was)
-      (λ it. inr (first.was_honest it.0, (it.1.0, it.1.1,
-          grows_trans (committed a) (committed b) it.1.0 (first.stays_committed it.0) it.1.2,
-          subst (λ (h : List Entry). Grows it.1.0 (applied_once h ((q, day) ∷ [])
-          (terms a).interval)) (first.same_history it.0)
-          (subst (λ (t : Terms). Grows it.1.0 (applied_once (history b) ((q, day) ∷ [])
-          t.interval)) (first.same_terms it.0) it.1.3))))
-      (second.finds d found may);
-}
+-- Lemmas about a book whose committed calls come first in its history.
+module _ {B : Type 0} (history committed : B → List Entry) (terms : B → Terms)
+    (honest clean : B → Type 0) (may_find : B → Option (List Entry) → Type 0)
+    (first_law : (book : B) → honest book → Grows (committed book) (history book)) where
+  -- The calls are between the committed ones and what applying a request makes.
+  abbrev Once : B → Request → ℕ → List Entry → Type 0
+  Once a q day calls = IsBetween (committed a)
+      (applied_once (history a) ((q, day) ∷ []) (terms a).interval) calls
 
--- A read, and then a new request's call that was kept, or was about to be.
-pub kept_once : {B : Type 0} {history committed : B → List Entry} {terms : B → Terms}
-    {honest clean : B → Type 0} {may_find : B → Option (List Entry) → Type 0} (a b c : B)
-    (q : Request) (day n : ℕ) (more : List Entry)
-    → Unchanged history committed terms honest clean may_find a b
-    → FindsAfter committed honest clean may_find b c (history b ++ more)
-    → (honest b → history b ++ more ≡ applied_once (history a) ((q, day) ∷ []) n)
-    → FindsAfter committed honest clean may_find a c
-    (applied_once (history a) ((q, day) ∷ []) n)
-kept_once {B} {history} {committed} {terms} {honest} {clean} {may_find} a b c q day n more first
-    second applied = record {
-  was_clean = λ d. first.stop.was_clean (second.was_clean d);
-  finds = λ d found may. ⊎_elim
-      (λ was. (finds_once a b q day n first.stop).finds (second.was_clean d) found was)
-      (λ it. inr (first.was_honest it.0, (it.1.0, it.1.1,
-          grows_trans (committed a) (committed b) it.1.0 (first.stays_committed it.0) it.1.2,
-          subst (Grows it.1.0) (applied it.0) it.1.3)))
-      (second.finds d found may);
-}
+  -- A read: an opening may find what applying a request would make, or less.
+  pub finds_once : (a b : B) (q : Request) (day : ℕ)
+      → Unchanged history committed terms honest clean may_find a b
+      → FindsAfter honest clean may_find a b (Once a q day)
+  finds_once a b q day unchanged = record {
+    was_clean = unchanged.stop.was_clean;
+    finds = λ c found may. ⊎_elim inl (λ it. inr (
+      it.0,
+      (
+        it.1.0,
+        it.1.1,
+        between_once (committed a) (history a) it.1.0 q day (terms a).interval
+            (first_law a it.0) it.1.2,
+      ),
+    )) (unchanged.stop.finds c found may);
+  }
+
+  -- A read, and then one after which an opening may find what a request makes.
+  pub once_after_unchanged : (a b c : B) (q : Request) (day : ℕ)
+      → Unchanged history committed terms honest clean may_find a b
+      → FindsAfter honest clean may_find b c (Once b q day)
+      → FindsAfter honest clean may_find a c (Once a q day)
+  once_after_unchanged a b c q day first second =
+      finds_after_unchanged (Once b q day) (Once a q day) first second
+      (λ h calls same. between_once (committed a) (history a) calls q day (terms a).interval
+      (first_law a h) same)
+      (λ h calls is. (
+        grows_trans (committed a) (committed b) calls (first.stays_committed h) is.0,
+        subst (λ (l : List Entry). Grows calls (applied_once l ((q, day) ∷ []) (terms a).interval))
+            (first.same_history h)
+            (subst (λ (t : Terms). Grows calls (applied_once (history b) ((q, day) ∷ [])
+            t.interval)) (first.same_terms h) is.1),
+      ))
+
+  -- A read, and then a new request's call that was kept, or was about to be.
+  pub kept_once : (a b c : B) (q : Request) (day : ℕ) (entry : Entry)
+      → Unchanged history committed terms honest clean may_find a b
+      → FindsAfter honest clean may_find b c (IsPerhapsWith (history b) entry)
+      → (honest b → history b ++ entry ∷ []
+      ≡ applied_once (history a) ((q, day) ∷ []) (terms a).interval)
+      → FindsAfter honest clean may_find a c (Once a q day)
+  kept_once a b c q day entry first second applied =
+      finds_after_unchanged (IsPerhapsWith (history b) entry) (Once a q day) first second
+      (λ h calls same. between_once (committed a) (history a) calls q day (terms a).interval
+      (first_law a h) same)
+      (λ h calls is. ⊎_elim
+      (λ (same : calls ≡ history b). between_once (committed a) (history a) calls q day
+      (terms a).interval (first_law a (first.was_honest h)) (same ∙ first.same_history h))
+      (λ (grown : calls ≡ history b ++ entry ∷ []). (
+        grows_trans (committed a) (history b) calls
+            (grows_trans (committed a) (committed b) (history b) (first.stays_committed h)
+            (first_law b h)) (entry ∷ [], grown),
+        grows_same calls (applied_once (history a) ((q, day) ∷ []) (terms a).interval)
+            (sym (grown ∙ applied h)),
+      ))
+      is)
 
 module _ {B : Type 0} (terms : B → Terms) (history committed : B → List Entry)
     (honest clean : B → Type 0) (may_find : B → Option (List Entry) → Type 0) where
@@ -132,26 +152,47 @@ module _ {B : Type 0} (terms : B → Terms) (history committed : B → List Entr
   pub stops_same : (a b : B) (ds : List Dated) → b ≡ a → Stops a b ds
   stops_same a b ds same = subst (λ (x : B). Stops a x ds) (sym same) (stops_none a ds)
 
-  pub stops_unchanged : (a b : B) → Unchanged history committed terms honest clean may_find a b
-      → Stops a b []
-  stops_unchanged a b unchanged = record {
+  pub stops_unchanged : (a b : B) → (honest a → Grows (committed a) (history a))
+      → Unchanged history committed terms honest clean may_find a b → Stops a b []
+  stops_unchanged a b first unchanged = record {
     was_clean = unchanged.stop.was_clean;
-    finds = λ c found may. ⊎_elim inl
-        (λ it. inr (it.0, ([], history a, none, ([], asked_none, refl), it.1)))
-        (unchanged.stop.finds c found may);
+    finds = λ c found may. ⊎_elim inl (λ it. inr (
+      it.0,
+      (
+        [],
+        history a,
+        none,
+        ([], asked_none, refl),
+        (
+          it.1.0,
+          it.1.1,
+          (
+            subst (Grows (committed a)) (sym it.1.2) (first it.0),
+            grows_same it.1.0 (history a) (sym it.1.2),
+          ),
+        ),
+      ),
+    )) (unchanged.stop.finds c found may);
   }
 
   -- One request that was applied, or was about to be.
   pub stops_one : (a b : B) (bytes : List ℕ) (day : ℕ) (q : Request) → Asks bytes q
-      → FindsAfter committed honest clean may_find a b
-      (applied_once (history a) ((q, day) ∷ []) (terms a).interval)
+      → FindsAfter honest clean may_find a b (IsBetween (committed a)
+      (applied_once (history a) ((q, day) ∷ []) (terms a).interval))
       → Stops a b ((bytes, day) ∷ [])
   stops_one a b bytes day q asks stop = record {
     was_clean = stop.was_clean;
     finds = λ c found may. ⊎_elim inl
-        (λ it. inr (it.0, ((bytes, day) ∷ [],
-            applied_once (history a) ((q, day) ∷ []) (terms a).interval, with none,
-            ((q, day) ∷ [], asked asks asked_none, refl), it.1)))
+        (λ it. inr (
+          it.0,
+          (
+            (bytes, day) ∷ [],
+            applied_once (history a) ((q, day) ∷ []) (terms a).interval,
+            with none,
+            ((q, day) ∷ [], asked asks asked_none, refl),
+            it.1,
+          ),
+        ))
         (stop.finds c found may);
   }
 
@@ -165,20 +206,33 @@ module _ {B : Type 0} (terms : B → Terms) (history committed : B → List Entr
     was_clean = λ d. first.was_clean (second.was_clean d);
     finds = λ d found may. ⊎_elim
         (λ was. ⊎_elim inl
-            (λ it. inr (it.0, (it.1.0, it.1.1, some_more es it.1.2, it.1.3, it.1.4)))
-            (first.finds (second.was_clean d) found was))
+        (λ it. inr (it.0, (it.1.0, it.1.1, some_more es it.1.2, it.1.3, it.1.4)))
+        (first.finds (second.was_clean d) found was))
         (λ it.
-            let more : List Dated = it.1.0 in
-            let whole : List Entry = it.1.1 in
-            let once : IsOnce (history b) more (terms a).interval whole =
-            subst (λ (t : Terms). IsOnce (history b) more t.interval whole) (same_terms it.0)
-            it.1.3 in
-            inr (was_honest it.0, (not_faulted ds ans ++ more, whole,
+        let more : List Dated = it.1.0 in
+        let whole : List Entry = it.1.1 in
+        let once : IsOnce (history b) more (terms a).interval whole =
+        subst (λ (t : Terms). IsOnce (history b) more t.interval whole) (same_terms it.0)
+        it.1.3 in
+        inr (
+          was_honest it.0,
+          (
+            not_faulted ds ans ++ more,
+            whole,
             some_append (some_served ds ans) it.1.2,
             IsOnce-append (history a) (history b) whole (not_faulted ds ans) more (terms a).interval
-            (served it.0).once_each once,
-            (it.1.4.0, it.1.4.1, grows_trans (committed a) (committed b) it.1.4.0 (stays it.0)
-            it.1.4.2, it.1.4.3))))
+                (served it.0).once_each once,
+            (
+              it.1.4.0,
+              it.1.4.1,
+              (
+                grows_trans (committed a) (committed b) it.1.4.0 (stays it.0)
+                    it.1.4.2.0,
+                it.1.4.2.1,
+              ),
+            ),
+          ),
+        ))
         (second.finds d found may);
   }
 
@@ -232,22 +286,25 @@ module _ {B : Type 0} (faults : B → Faults) (honest : B → Type 0) (terms : B
       (λ h. (upto h).same_terms) (λ h. (upto h).served) (λ h. (upto h).stays_committed)
       last.1.stop)
 
-  stops_answered : (between new : B) (ts : List Exchange)
-      (commit_result : Result (Unit {0}) BookFault)
+  stops_answered : ((book : B) → honest book → Grows (committed book) (history book))
+      → (between new : B) (ts : List Exchange) (commit_result : Result (Unit {0}) BookFault)
       → CommitsIfPending faults honest terms history committed clean may_find between new ts
       commit_result → StopsIn between new []
-  stops_answered between new ts commit_result (inr it) =
+  stops_answered first_law between new ts commit_result (inr it) =
       stops_same terms history committed honest clean may_find between new [] it.0
-  stops_answered between new ts commit_result (inl it) =
-      stops_unchanged terms history committed honest clean may_find between new it.2.unchanged
+  stops_answered first_law between new ts commit_result (inl it) =
+      stops_unchanged terms history committed honest clean may_find between new (first_law between)
+      it.2.unchanged
 
-  pub stops_batch : (day most : ℕ) (old new : Trace × B) (batch : List Turn)
+  pub stops_batch : ((book : B) → honest book → Grows (committed book) (history book))
+      → (day most : ℕ) (old new : Trace × B) (batch : List Turn)
       (it : ServesBatch faults honest terms history committed clean may_find day most old new batch)
       → StopsIn old.1 new.1 (sent day it.taken)
-  stops_batch day most old new batch it =
+  stops_batch first_law day most old new batch it =
       let middle = it.takes.handled in
       let after : StopsIn middle.1 new.1 [] = subst (λ (x : B). StopsIn x new.1 []) it.takes.same
-      (stops_answered it.between.1 new.1 it.taken it.answers.commit_result it.answers.commits) in
+      (stops_answered first_law it.between.1 new.1 it.taken it.answers.commit_result
+      it.answers.commits) in
       let upto : honest middle.1 → Upto faults honest terms history committed clean may_find given
       (history old.1) (terms old.1) (committed old.1) (sent day it.taken) (told it.taken)
       middle.1 =
@@ -262,15 +319,17 @@ module _ {B : Type 0} (faults : B → Faults) (honest : B → Type 0) (terms : B
       it.taken it.takes.takes)
       (λ h. (upto h).same_terms) (λ h. (upto h).served) (λ h. (upto h).stays_committed) after)
 
-  pub stops_batches : (old new : Trace × B) (batches : List (List Turn))
+  pub stops_batches : ((book : B) → honest book → Grows (committed book) (history book))
+      → (old new : Trace × B) (batches : List (List Turn))
       (lead : BatchesLead (IsBatch faults honest terms history committed clean may_find given) old
       batches new)
       → StopsIn old.1 new.1 (deliveries_in faults honest terms history committed clean may_find old
       new batches given lead)
   unfolding BatchesLead deliveries_in
-  stops_batches old new [] same = stops_same terms history committed honest clean may_find old.1
+  stops_batches first_law old new [] same = stops_same terms history committed honest clean may_find
+      old.1
       new.1 [] (ap (λ (s : Trace × B). s.1) same)
-  stops_batches old new (batch ∷ batches) (next, (day, is, most, it), rest) =
+  stops_batches first_law old new (batch ∷ batches) (next, (day, is, most, it), rest) =
       let upto : honest next.1 → Upto faults honest terms history committed clean may_find given
       (history old.1) (terms old.1) (committed old.1) (sent day it.taken) (told it.taken)
       next.1 =
@@ -281,11 +340,11 @@ module _ {B : Type 0} (faults : B → Faults) (honest : B → Type 0) (terms : B
       (sent day it.taken)
       (deliveries_in faults honest terms history committed clean may_find next new batches given
       rest)
-      (told it.taken) (stops_batch day most old next batch it)
+      (told it.taken) (stops_batch first_law day most old next batch it)
       (honest_batch faults honest terms history committed clean may_find given old next batch
       (day, is, most, it))
       (λ h. (upto h).same_terms) (λ h. (upto h).served) (λ h. (upto h).stays_committed)
-      (stops_batches next new batches rest)
+      (stops_batches first_law next new batches rest)
 
   pub survived : ((book : B) → honest book → IsLegal (history book) (terms book))
       → ((book : B) → honest book → Grows (committed book) (history book))
@@ -305,21 +364,34 @@ module _ {B : Type 0} (faults : B → Faults) (honest : B → Type 0) (terms : B
       let among : IsFoundAmong (committed between.1) (history old.1) (terms old.1).interval
       (ds ++ es) found =
       ⊎_elim
-      (λ was. (not_faulted ds ans, history between.1, some_more es (some_served ds ans),
-      all.served.once_each, (committed between.1, found_law between.1 h found was,
-      grows_none (committed between.1), first_law between.1 h)))
-      (λ it. (not_faulted ds ans ++ it.1.0, it.1.1, some_append (some_served ds ans) it.1.2,
-      IsOnce-append (history old.1) (history between.1) it.1.1 (not_faulted ds ans) it.1.0
-      (terms old.1).interval all.served.once_each
-      (subst (λ (t : Terms). IsOnce (history between.1) it.1.0 t.interval it.1.1) all.same_terms
-      it.1.3), it.1.4))
-      ((stops_batches between new rest after).finds c found may) in
-      (
+      (λ was. (
+        not_faulted ds ans,
+        history between.1,
+        some_more es (some_served ds ans),
+        all.served.once_each,
+        (
+          committed between.1,
+          found_law between.1 h found was,
+          (grows_none (committed between.1), first_law between.1 h),
+        ),
+      ))
+      (λ it. (
+        not_faulted ds ans ++ it.1.0,
+        it.1.1,
+        some_append (some_served ds ans) it.1.2,
+        IsOnce-append (history old.1) (history between.1) it.1.1 (not_faulted ds ans) it.1.0
+            (terms old.1).interval all.served.once_each
+            (subst (λ (t : Terms). IsOnce (history between.1) it.1.0 t.interval it.1.1)
+                all.same_terms
+            it.1.3),
+        it.1.4,
+      ))
+      ((stops_batches first_law between new rest after).finds c found may) in (
         among,
         λ calls is.
             let same : among.4.0 ≡ calls = same_Some among.4.0 calls (sym among.4.1 ∙ is) in
             let grew : Grows (committed between.1) calls =
-            subst (Grows (committed between.1)) same among.4.2 in
+            subst (Grows (committed between.1)) same among.4.2.0 in
             all_sent calls ds (turns_in first) (all_more (committed between.1) calls ds ds
             (turns_in first) grew (λ d inside. inside) all.owed),
       )

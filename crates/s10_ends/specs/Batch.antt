@@ -106,7 +106,7 @@ module _ {B : Type 0} (faults : B → Faults) (honest : B → Type 0) (terms : B
   abbrev pub CommitsIfPending : B → B → List Exchange → Result (Unit {0}) BookFault → Type 0
   CommitsIfPending old new taken commit_result =
       ((has_reply taken ≡ true) × (honest old → ¬ (AllCommitted (committed old) (history old)
-          taken))
+      taken))
       × Commits faults honest terms history committed clean may_find old new commit_result)
       ⊎ ((new ≡ old) × (commit_result ≡ Ok tt)
       × (honest old → AllCommitted (committed old) (history old) taken))

@@ -27,8 +27,11 @@ module _ {B F N : Type 0} (faults : B → Faults) (honest : B → Type 0) (terms
   abbrev pub IsNearReceive : NearEnds B F N → NearEnds B F N → Type 0
   IsNearReceive old new =
       (turn : Turn) × (came : ReceiveResult)
-      × ServesOne faults honest terms history committed clean may_find old.day (far old.far, book_of
-          old.server) (
+      × ServesOne faults honest terms history committed clean may_find old.day (
+        far old.far,
+        book_of
+            old.server,
+      ) (
         far new.far,
         book_of new.server,
       ) turn

@@ -2,7 +2,7 @@
 use Rattle.std.specs.Prelude.{◌≡◌, ◌⊎◌, ℕ, List, [], ◌∷◌, Option}
 use Rattle.s10_history.specs.declared.entry.Entry.{Entry}
 use Rattle.s10_history.specs.Settings.{Terms}
-use Rattle.s10_book.specs.Book.{IsFoundBetween}
+use Rattle.s10_book.specs.Book.{IsBetween, FindsCalls}
 use Rattle.s10_ends.specs.Served.{Dated, IsOnce}
 
 -- The first deliveries are some of the second ones, in the same order.
@@ -15,7 +15,8 @@ pub data AreSome : List Dated → List Dated → Type 0 where
 -- of some of the deliveries once, in order of first arrival, makes of the history.
 abbrev pub IsFoundAmong : List Entry → List Entry → ℕ → List Dated → Option (List Entry) → Type 0
 IsFoundAmong committed h interval deliveries found = (some : List Dated) × (whole : List Entry)
-    × AreSome some deliveries × IsOnce h some interval whole × IsFoundBetween committed whole found
+    × AreSome some deliveries × IsOnce h some interval whole
+    × FindsCalls (IsBetween committed whole) found
 
 -- After these deliveries and a stop, an opening may find what it could find before them or, if the
 -- book was honest, its committed calls and more that the deliveries ask for. The store is still

@@ -35,7 +35,7 @@ Turn = Result ServerTurn LinkFault
 pub record Handles {B : Type 0} (faults : B → Faults) (honest : B → Type 0) (terms : B → Terms)
     (history committed : B → List Entry) (clean : B → Type 0)
     (may_find : B → Option (List Entry) → Type 0) (old new : B) (day : ℕ) (b : List ℕ) (answer :
-        Answer) :
+    Answer) :
     Type 0 where
   pub counts : CountsAnswer answer (faults old) (faults new)
   pub dropped : (fault : WireFault) → (answer ≡ Dropped fault)
@@ -53,7 +53,7 @@ pub record Handles {B : Type 0} (faults : B → Faults) (honest : B → Type 0) 
 pub record Commits {B : Type 0} (faults : B → Faults) (honest : B → Type 0) (terms : B → Terms)
     (history committed : B → List Entry) (clean : B → Type 0)
     (may_find : B → Option (List Entry) → Type 0) (old new : B) (result : Result (Unit {0})
-        BookFault) :
+    BookFault) :
     Type 0 where
   pub counts : CountsResult result (faults old) (faults new)
   pub unchanged : Unchanged history committed terms honest clean may_find old new

@@ -15,15 +15,15 @@ use s10_book::Book;
 pub fn batches_compose<B: Book>()
     ensures { (given : Option ℕ) (old new : Trace × B) (batches : List (List Turn))
         (lead : BatchesLead (IsBatch B.faults B.honest B.terms B.history B.committed B.clean
-            B.may_find given) old
+        B.may_find given) old
         batches new)
         → B.honest new.1 → ServesAll B.faults B.honest B.terms B.history B.committed B.clean
-            B.may_find old.1 new.1
+        B.may_find old.1 new.1
         (deliveries_in B.faults B.honest B.terms B.history B.committed B.clean B.may_find old new
-            batches given
+        batches given
         lead)
         (answers_in B.faults B.honest B.terms B.history B.committed B.clean B.may_find old new
-            batches given lead)
+        batches given lead)
         (turns_in batches) }
 {}
 

@@ -3,7 +3,7 @@
 ghost use Rattle.std.specs.Prelude.{◌≡◌, ◌∷◌, [], IfOk, OnErr, IsTrue, Ok, Err, None};
 ghost use Rattle.s10_wire.specs.Kind.{fits};
 ghost use Rattle.s10_history.specs.History.{find_entry};
-ghost use Rattle.s10_book.specs.Book.{Grows, FindsAfter};
+ghost use Rattle.s10_book.specs.Book.{Grows, FindsAfter, IsBetween};
 ghost use Rattle.s10_book.specs.Once.{applied_once};
 ghost use Rattle.s10_ends.specs.Served.{GivesOutcome, IsFullFor};
 ghost use Rattle.s10_ends.specs.Respond.{CountsFull};
@@ -35,9 +35,9 @@ fn respond<B: Book>(book: &mut B, request: &Request, day: u32) -> Result<Outcome
         → Grows (B.committed book.old) (B.committed book.new) }
     ensures committed { B.durable → B.honest book.new → B.committed book.old ≡ B.history book.old
         → B.committed book.new ≡ B.history book.new }
-    ensures stop { FindsAfter B.committed B.honest B.clean B.may_find book.old book.new
-        (applied_once (B.history book.old) ((request.now, day) ∷ [])
-        (B.terms book.old).interval) }
+    ensures stop { FindsAfter B.honest B.clean B.may_find book.old book.new
+        (IsBetween (B.committed book.old) (applied_once (B.history book.old)
+        ((request.now, day) ∷ []) (B.terms book.old).interval)) }
 {
     if let Some(entry) = book.find(request.customer, request.number)? {
         return Ok(if same_request(&entry.request, request) {
@@ -71,9 +71,9 @@ fn execute<B: Book>(book: &mut B, request: &Request, day: u32) -> Result<Outcome
         → Grows (B.committed book.old) (B.committed book.new) }
     ensures committed { B.durable → B.honest book.new → B.committed book.old ≡ B.history book.old
         → B.committed book.new ≡ B.history book.new }
-    ensures stop { FindsAfter B.committed B.honest B.clean B.may_find book.old book.new
-        (applied_once (B.history book.old) ((request.now, day) ∷ [])
-        (B.terms book.old).interval) }
+    ensures stop { FindsAfter B.honest B.clean B.may_find book.old book.new
+        (IsBetween (B.committed book.old) (applied_once (B.history book.old)
+        ((request.now, day) ∷ []) (B.terms book.old).interval)) }
 {
     if book.settings().limit() <= book.len() {
         return Err(BookFault::Full);

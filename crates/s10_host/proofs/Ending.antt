@@ -460,7 +460,7 @@ module _ (S : RattleType) (first : Ghosts S.Denot) where
       → Unchanged (λ (b : FileLedger S first). history_of over_files b)
       (λ (b : FileLedger S first). committed_of over_files b) (λ b. b.terms)
       (IsHonest over_files) (IsOverCleanDisk over_files) (MayFind over_files) opened after → Writes
-          S first report opened after old new done
+      S first report opened after old new done
       → IsClosedAs over_files after closed committed
       → IfSome files (λ f. Copies closed f × EndsAs committed done new last result)
       → IfSome files (IsReported S first opened report old last result)

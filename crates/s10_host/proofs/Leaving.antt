@@ -34,11 +34,11 @@ served_over : (day : ℕ) (begun ended : LoopLink) → IsNewLoop day begun
 served_over day begun ended fresh led honest =
     let on : LedOn (λ (b : Ledger MemStore). b.faults) (IsHonest over_memory) (λ b. b.terms)
     (history_of over_memory) (committed_of over_memory) (IsOverCleanDisk over_memory) (MayFind
-        over_memory) (λ (l : BoundLink). l.trace)
+    over_memory) (λ (l : BoundLink). l.trace)
     (λ (l : BoundLink). l.trace) begun.day (book_of begun.server) (book_of ended.server) =
     near_led (λ (b : Ledger MemStore). b.faults) (IsHonest over_memory) (λ b. b.terms)
     (history_of over_memory) (committed_of over_memory) (IsOverCleanDisk over_memory) (MayFind
-        over_memory) (λ (l : BoundLink). l.trace)
+    over_memory) (λ (l : BoundLink). l.trace)
     (λ (l : BoundLink). l.trace) begun ended led in
     let last : List Entry = history_of over_memory (book_of ended.server) in
     subst (λ (d : ℕ). ServedOn d [] loop_terms last) fresh.on_day
@@ -63,11 +63,11 @@ none_left day begun ended fresh led honest =
     let last : Ledger MemStore = book_of ended.server in
     let whole : Whole (λ (b : Ledger MemStore). b.faults) (IsHonest over_memory) (λ b. b.terms)
     (history_of over_memory) (committed_of over_memory) (IsOverCleanDisk over_memory) (MayFind
-        over_memory) (λ (l : BoundLink). l.trace)
+    over_memory) (λ (l : BoundLink). l.trace)
     (λ (l : BoundLink). l.trace) last =
     near_whole (λ (b : Ledger MemStore). b.faults) (IsHonest over_memory) (λ b. b.terms)
     (history_of over_memory) (committed_of over_memory) (IsOverCleanDisk over_memory) (MayFind
-        over_memory) (λ (l : BoundLink). l.trace)
+    over_memory) (λ (l : BoundLink). l.trace)
     (λ (l : BoundLink). l.trace) begun ended led
     (λ h. of_none (committed_of over_memory first) first.pending fresh.empty) in
     all_of (committed_of over_memory last) last.pending (whole honest)

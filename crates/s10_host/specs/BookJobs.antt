@@ -72,7 +72,7 @@ module _ {S : Type 0} (g : Ghosts S) where
       → Type 0
   HasRunBookJob (Create terms) was old new done link closed commit_result =
       (book : Ledger S) × IsMadeWith terms book × IsClosedAs g book closed commit_result × (done ≡
-          Ok Done)
+      Ok Done)
       × (new ≡ old) × (link ≡ None)
   HasRunBookJob (Serve at count day) was old new done link closed commit_result =
       HasBeenServed count day was old new done link closed commit_result

@@ -40,4 +40,4 @@ module _ {S : Type 0} (g : Ghosts S) where
   Turns day count opened served old new result link =
       ServesTurns (λ (b : Ledger S). b.faults) (IsHonest g) (λ b. b.terms) (history_of g)
       (committed_of g) (IsOverCleanDisk g) (MayFind g) day (new_trace, opened) (link.trace, served)
-          old new count result
+      old new count result

@@ -179,7 +179,7 @@ module _ (S : RattleType) (first : Ghosts S.Denot) where
     pub written : Writes report opened reported old new result
     pub unchanged : Unchanged (λ (b : FileLedger S first). history_of over_files b)
         (λ (b : FileLedger S first). committed_of over_files b) (λ b. b.terms) (IsHonest over_files)
-            (IsOverCleanDisk over_files) (MayFind over_files)
+        (IsOverCleanDisk over_files) (MayFind over_files)
         opened reported
     pub closes_into : ClosesInto reported (history_of over_files reported) files
 

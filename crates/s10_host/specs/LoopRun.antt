@@ -43,7 +43,7 @@ loop_terms = record { interval = 30; limit = 100 }
 abbrev pub IsLoopStep : LoopLink → LoopLink → Type 0
 IsLoopStep = IsNearStep (λ (b : Ledger MemStore). b.faults) (IsHonest over_memory) (λ b. b.terms)
     (history_of over_memory) (committed_of over_memory) (IsOverCleanDisk over_memory) (MayFind
-        over_memory) (λ (l : BoundLink). l.trace)
+    over_memory) (λ (l : BoundLink). l.trace)
     (λ (l : BoundLink). l.trace)
 
 -- A new loop: its links carried nothing, and its ledger is empty.

@@ -171,9 +171,11 @@ pub as_one : {B : Type 0} (faults : B → Faults) (honest : B → Type 0) (terms
     result
 as_one faults honest terms history committed clean may_find legal first found given old new held
     now count result serves = record {
-  serves = serves;
-  composed = all_composed faults honest terms history committed clean may_find given legal old new
-      serves.batches serves.lead;
-  survives = survived faults honest terms history committed clean may_find given legal first found
-      old new;
-}
+      serves = serves;
+      composed = all_composed faults honest terms history committed clean may_find given legal old
+          new
+          serves.batches serves.lead;
+      survives = survived faults honest terms history committed clean may_find given legal first
+          found
+          old new;
+    }

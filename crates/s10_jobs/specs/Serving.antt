@@ -56,9 +56,9 @@ module _ {B : Type 0} (faults : B → Faults) (honest : B → Type 0) (terms : B
     pub composed : honest new.1 → ServesAll faults honest terms history committed clean may_find
         old.1 new.1
         (deliveries_in faults honest terms history committed clean may_find old new serves.batches
-            given
+        given
         serves.lead)
         (answers_in faults honest terms history committed clean may_find old new serves.batches
-            given serves.lead)
+        given serves.lead)
         (turns_in serves.batches)
     pub survives : SurvivesStop faults honest terms history committed clean may_find given old new

@@ -16,11 +16,11 @@ use Rattle.s10_history.specs.History.{day_of}
 use Rattle.s10_schema.specs.Schema.{IsLedgerSchema, IsClosedSchema}
 use Rattle.s10_statements.specs.ConnectionState.{IsQuiescent, StaysUnclean}
 use Rattle.s10_statements.specs.Statements.{LeavesTables}
-use Rattle.s10_book.specs.Book.{Grows}
-use Rattle.s10_book.proofs.Calls.{grows_none, grows_same}
+use Rattle.s10_book.specs.Book.{FindsAfter}
+use Rattle.s10_book.proofs.Calls.{grows_same}
 use Rattle.s10_ledger.specs.Ledger.{Ledger, IsLedger, IsHonest, HoldsCalls, IsFoundIn}
 use Rattle.s10_ledger.specs.Ledger.{LeavesUnchanged, MayFindAlso, LeavesCommitted, history_in}
-use Rattle.s10_ledger.specs.Ledger.{history_of, committed_of}
+use Rattle.s10_ledger.specs.Ledger.{history_of, committed_of, IsOverCleanDisk, MayFind}
 use Rattle.s10_ledger.specs.Found.{one_found}
 use Rattle.s10_statements.proofs.CrashLemmas.{either}
 use Rattle.s10_statements.proofs.Apart.{is_ledger-prop, is_closed-prop}
@@ -54,25 +54,26 @@ module _ {S : Type 0} (g : Ghosts S) (old new : Held S) (t : Terms) (len day : �
 
 -- What an opening may find after a call that commits these calls or nothing.
 pub may_find_also : {S : Type 0} (g : Ghosts S) (old new : Ledger S) (calls : List Entry)
-    → StaysUnclean g old.conn new.conn → new.terms ≡ old.terms → Grows (committed_of g old) calls
+    → StaysUnclean g old.conn new.conn → new.terms ≡ old.terms
     → (HasCleanDisk (state g new.conn) → (db : Trees) → (state g new.conn).may_leave db
     → (state g old.conn).may_leave db ⊎ (IsHonest g old × HoldsCalls db old.terms calls))
     → MayFindAlso g old new calls
-may_find_also g old new calls clean same grows crash = record {
+may_find_also g old new calls clean same crash = record {
   was_clean = λ is. omega (arith, clean, is);
   finds = λ is found may.
       let there = subst (λ (t : Terms). IsFoundIn may.0 t found) same may.2 in
       either (crash is may.0 may.1) (λ left. (may.0, left, there)) (λ both. (
         both.0,
-        (calls, one_found may.0 old.terms calls found both.1 there, grows, grows_none calls),
+        (calls, one_found may.0 old.terms calls found both.1 there, refl),
       ));
 }
 
 -- An opening may find the same of a ledger with the same connection and settings.
-pub finds_the_same : {S : Type 0} (g : Ghosts S) (old mid new : Ledger S) (calls : List Entry)
-    → new.conn ≡ mid.conn → new.terms ≡ mid.terms → MayFindAlso g old mid calls
-    → MayFindAlso g old new calls
-finds_the_same {S} g old mid new calls conn terms stop =
+pub finds_the_same : {S : Type 0} (g : Ghosts S) (old mid new : Ledger S)
+    (IsSuch : List Entry → Type 0) → new.conn ≡ mid.conn → new.terms ≡ mid.terms
+    → FindsAfter (IsHonest g) (IsOverCleanDisk g) (MayFind g) old mid IsSuch
+    → FindsAfter (IsHonest g) (IsOverCleanDisk g) (MayFind g) old new IsSuch
+finds_the_same {S} g old mid new IsSuch conn terms stop =
     let was_clean = λ (is : HasCleanDisk (state g new.conn)).
     subst (λ (h : Held S). HasCleanDisk (state g h)) conn is in
     record {
@@ -107,7 +108,7 @@ read_keeps g old conn faults leaves spares settled kept = record {
       (history_in (state g conn).now) (ap history_in (same_tables g old.conn conn old.terms old.len
       old.day leaves settled kept h.clean h.is_open));
   stop = may_find_also g old (record old { conn = conn; faults = faults }) (history_of g old)
-      leaves.clean refl (old.pending, refl) (λ is db left. inl (spares is db left));
+      leaves.clean refl (λ is db left. inl (spares is db left));
 }
 
 pub answered : {A T E : Type 0} → IsSet T → (r : Result T E) (x : T) → ∥ A ∥₁

@@ -181,10 +181,10 @@ LeavesUnchanged {S} g old new = Unchanged (history_of g) (committed_of g)
     (λ (l : Ledger S). l.terms) (IsHonest g) (IsOverCleanDisk g) (MayFind g) old new
 
 -- After a stop, an opening may find what it could find before the call or, if the ledger was
--- honest, its committed calls and more of these calls.
+-- honest, these calls.
 abbrev pub MayFindAlso : {S : Type 0} → Ghosts S → Ledger S → Ledger S → List Entry → Type 0
-MayFindAlso g old new calls = FindsAfter (committed_of g) (IsHonest g) (IsOverCleanDisk g)
-    (MayFind g) old new calls
+MayFindAlso g old new calls = FindsAfter (IsHonest g) (IsOverCleanDisk g) (MayFind g) old new
+    (λ found. found ≡ calls)
 
 -- The connection is open if its disk is clean.
 abbrev pub IsOpenIfClean : {S : Type 0} → Ghosts S → Held S → Type 0

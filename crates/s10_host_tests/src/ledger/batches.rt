@@ -181,7 +181,14 @@ fn replies_while_pending<R: Abort + AllocGlobal>(rt: &R) -> (bool, bool) {
     let mut server = Server::new(committed(Batched::new(ledger(rt, settings(rt, 1000)))));
     let _ = server.handle(SECOND.request, 20_000);
     let ended = match link(rt.alloc(), (FIRST, FIRST)) {
-        Ok(mut link) => ends(rt.alloc(), &mut server, &mut link, (FIRST, FIRST), true, false),
+        Ok(mut link) => ends(
+            rt.alloc(),
+            &mut server,
+            &mut link,
+            (FIRST, FIRST),
+            true,
+            false,
+        ),
         Err(_) => false,
     };
     let is_committed = server.is_committed(SECOND.request);

@@ -165,7 +165,7 @@ fn served_until(alloc: Global, settings: Settings, at: u64) -> Option<(Served, O
     Some((served?, calls_after_crash(alloc, files)))
 }
 
-/// Returns whether the file has the call of each reply that was sent, and no call that was not kept.
+/// Returns whether the file has the call of each reply that was sent, and only kept calls.
 fn stands(served: Served, found: Option<u32>) -> bool {
     match found {
         Some(found) => {

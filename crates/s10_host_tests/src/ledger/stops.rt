@@ -3,7 +3,9 @@
 
 use crate::expect::same;
 use crate::ledger::calls::{closed, settings};
-use crate::ledger::committing::{COMMITTED, CommitReport, UNCOMMITTED, commits_three_in, keeps_five_in};
+use crate::ledger::committing::{
+    COMMITTED, CommitReport, UNCOMMITTED, commits_three_in, keeps_five_in,
+};
 use crate::ledger::tables::{OLD_LEDGER, run_batches};
 use s10_book::Book;
 use s10_history::Settings;

@@ -7,7 +7,7 @@ pub returns-clause-handles : goal.returns-clause-handles
 returns-clause-handles g c =
     let P : List ℕ → Type 0 = λ b. Handles g.B.Book.faults g.B.Book.honest g.B.Book.terms
     g.B.Book.history g.B.Book.committed g.B.Book.clean g.B.Book.may_find (book_of c.args.server.now)
-        (book_of c.handle.new.self)
+    (book_of c.handle.new.self)
     c.args.day b c.handle.result in
     subst P c.bytes.ensures.bytes (
     record {

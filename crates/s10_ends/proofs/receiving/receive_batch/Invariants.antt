@@ -12,7 +12,7 @@ invariant-loop-more g l = record {
   count : length l.taken.items ≡ l._more;
   takes : ReceivesAll (λ before after b answer. Handles g.B.Book.faults g.B.Book.honest
       g.B.Book.terms g.B.Book.history g.B.Book.committed g.B.Book.clean g.B.Book.may_find before
-          after l.fn.day b answer)
+      after l.fn.day b answer)
       (g.L.Link.trace_of l.fn.link, l.fn.server.book) l.taken.items (
         g.L.Link.trace_of l.link,
         l.server.book,

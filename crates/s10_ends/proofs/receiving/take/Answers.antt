@@ -7,7 +7,7 @@ pub returns-in_err-from-clause-takes : goal.returns-in_err-from-clause-takes
 returns-in_err-from-clause-takes g c =
     failed_take (λ before after b answer. Handles g.B.Book.faults g.B.Book.honest g.B.Book.terms
     g.B.Book.history g.B.Book.committed g.B.Book.clean g.B.Book.may_find before after c.args.day b
-        answer)
+    answer)
     (g.L.Link.trace_of c.args.link.now) (g.L.Link.trace_of c.receive.new.self) _
     c.in_err-from.field-0.0 c.from_residual.result c.in_err-from.ensures.trace
     c.from_residual.ensures.1

@@ -238,8 +238,9 @@ pub returns-then-limit-len-clause-stop : goal.returns-then-limit-len-clause-stop
 returns-then-limit-len-clause-stop g c = FindsAfter-refl c.args.book.now _
 
 pub returns-in_err-decide-clause-stop : goal.returns-in_err-decide-clause-stop
-returns-in_err-decide-clause-stop g c = finds_once c.args.book.now c.decide.new.book
-    c.args.request.now c.args.day _ c.decide.ensures.unchanged.stop
+returns-in_err-decide-clause-stop g c = finds_once g.B.Book.history g.B.Book.committed
+    g.B.Book.terms g.B.Book.honest g.B.Book.clean g.B.Book.may_find g.met.B.Book.first
+    c.args.book.now c.decide.new.book c.args.request.now c.args.day c.decide.ensures.unchanged
 
 pub returns-in_err-keep-clause-stop : goal.returns-in_err-keep-clause-stop
 returns-in_err-keep-clause-stop g c =
@@ -249,17 +250,18 @@ returns-in_err-keep-clause-stop g c =
       outcome = c.in_ok-decide.field-0;
     } in
     let old = g.B.Book.history c.args.book.now in
-    kept_once c.args.book.now c.decide.new.book c.keep.new.self c.args.request.now c.args.day
-    (g.B.Book.terms c.args.book.now).interval (e ∷ []) c.decide.ensures.unchanged
+    kept_once g.B.Book.history g.B.Book.committed g.B.Book.terms g.B.Book.honest g.B.Book.clean
+    g.B.Book.may_find g.met.B.Book.first c.args.book.now c.decide.new.book c.keep.new.self
+    c.args.request.now c.args.day e c.decide.ensures.unchanged
     c.keep.ensures.stop
     (λ h.
-        let h1 = c.decide.ensures.unchanged.was_honest h in
-        let day : c.max-day.result ≡ max (day_of old) c.args.day = c.max-day.ensures
-        ∙ ap (λ d. max d c.args.day) (c.day.ensures h1) in
-        once_new old (g.B.Book.history c.decide.new.book ++ e ∷ []) c.args.request.now c.args.day
-        c.max-day.result (g.B.Book.terms c.args.book.now).interval c.in_ok-decide.field-0
-        (c.requires h1) day (c.in_ok-decide.ensures.answer h)
-        (ap (λ l. l ++ e ∷ []) (c.decide.ensures.unchanged.same_history h)))
+    let h1 = c.decide.ensures.unchanged.was_honest h in
+    let day : c.max-day.result ≡ max (day_of old) c.args.day = c.max-day.ensures
+    ∙ ap (λ d. max d c.args.day) (c.day.ensures h1) in
+    once_new old (g.B.Book.history c.decide.new.book ++ e ∷ []) c.args.request.now c.args.day
+    c.max-day.result (g.B.Book.terms c.args.book.now).interval c.in_ok-decide.field-0
+    (c.requires h1) day (c.in_ok-decide.ensures.answer h)
+    (ap (λ l. l ++ e ∷ []) (c.decide.ensures.unchanged.same_history h)))
 
 pub returns-clause-stop : goal.returns-clause-stop
 returns-clause-stop g c =
@@ -269,14 +271,15 @@ returns-clause-stop g c =
       outcome = c.in_ok-decide.field-0;
     } in
     let old = g.B.Book.history c.args.book.now in
-    kept_once c.args.book.now c.decide.new.book c.keep.new.self c.args.request.now c.args.day
-    (g.B.Book.terms c.args.book.now).interval (e ∷ []) c.decide.ensures.unchanged
+    kept_once g.B.Book.history g.B.Book.committed g.B.Book.terms g.B.Book.honest g.B.Book.clean
+    g.B.Book.may_find g.met.B.Book.first c.args.book.now c.decide.new.book c.keep.new.self
+    c.args.request.now c.args.day e c.decide.ensures.unchanged
     c.keep.ensures.stop
     (λ h.
-        let h1 = c.decide.ensures.unchanged.was_honest h in
-        let day : c.max-day.result ≡ max (day_of old) c.args.day = c.max-day.ensures
-        ∙ ap (λ d. max d c.args.day) (c.day.ensures h1) in
-        once_new old (g.B.Book.history c.decide.new.book ++ e ∷ []) c.args.request.now c.args.day
-        c.max-day.result (g.B.Book.terms c.args.book.now).interval c.in_ok-decide.field-0
-        (c.requires h1) day (c.in_ok-decide.ensures.answer h)
-        (ap (λ l. l ++ e ∷ []) (c.decide.ensures.unchanged.same_history h)))
+    let h1 = c.decide.ensures.unchanged.was_honest h in
+    let day : c.max-day.result ≡ max (day_of old) c.args.day = c.max-day.ensures
+    ∙ ap (λ d. max d c.args.day) (c.day.ensures h1) in
+    once_new old (g.B.Book.history c.decide.new.book ++ e ∷ []) c.args.request.now c.args.day
+    c.max-day.result (g.B.Book.terms c.args.book.now).interval c.in_ok-decide.field-0
+    (c.requires h1) day (c.in_ok-decide.ensures.answer h)
+    (ap (λ l. l ++ e ∷ []) (c.decide.ensures.unchanged.same_history h)))

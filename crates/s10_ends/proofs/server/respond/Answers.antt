@@ -150,13 +150,17 @@ returns-in_err-entry-clause-committed g c = λ lasting h whole. whole_kept c.arg
     c.find.new.self c.find.ensures.unchanged h (g.met.B.Book.first c.find.new.self h) whole
 
 pub returns-in-Some-clause-stop : goal.returns-in-Some-clause-stop
-returns-in-Some-clause-stop g c = finds_once c.args.book.now c.find.new.self c.args.request.now
-    c.args.day _ c.find.ensures.unchanged.stop
+returns-in-Some-clause-stop g c = finds_once g.B.Book.history g.B.Book.committed g.B.Book.terms
+    g.B.Book.honest g.B.Book.clean g.B.Book.may_find g.met.B.Book.first c.args.book.now
+    c.find.new.self c.args.request.now c.args.day c.find.ensures.unchanged
 
 pub returns-in_err-entry-clause-stop : goal.returns-in_err-entry-clause-stop
-returns-in_err-entry-clause-stop g c = finds_once c.args.book.now c.find.new.self
-    c.args.request.now c.args.day _ c.find.ensures.unchanged.stop
+returns-in_err-entry-clause-stop g c = finds_once g.B.Book.history g.B.Book.committed g.B.Book.terms
+    g.B.Book.honest g.B.Book.clean g.B.Book.may_find g.met.B.Book.first c.args.book.now
+    c.find.new.self c.args.request.now c.args.day c.find.ensures.unchanged
 
 pub returns-clause-stop : goal.returns-clause-stop
-returns-clause-stop g c = once_after_unchanged c.args.book.now c.find.new.self c.execute.new.book
+returns-clause-stop g c = once_after_unchanged g.B.Book.history g.B.Book.committed g.B.Book.terms
+    g.B.Book.honest g.B.Book.clean g.B.Book.may_find g.met.B.Book.first c.args.book.now
+    c.find.new.self c.execute.new.book
     c.args.request.now c.args.day c.find.ensures.unchanged c.execute.ensures.stop

@@ -24,7 +24,7 @@ returns-in_default-clause-turn g c = record {
   taken = Ok None;
   takes = found_as (λ before after b answer. Handles g.B.Book.faults g.B.Book.honest
       g.B.Book.terms g.B.Book.history g.B.Book.committed g.B.Book.clean g.B.Book.may_find before
-          after c.args.day b answer) _ _
+      after c.args.day b answer) _ _
       c.in_ok-taken.field-0 None c.in_default.is c.in_ok-taken.ensures.takes;
   answers = (refl, refl);
 }
@@ -35,7 +35,7 @@ returns-clause-turn g c = record {
   taken = Ok (Some c.in-Some.taken);
   takes = found_as (λ before after b answer. Handles g.B.Book.faults g.B.Book.honest
       g.B.Book.terms g.B.Book.history g.B.Book.committed g.B.Book.clean g.B.Book.may_find before
-          after c.args.day b answer) _ _
+      after c.args.day b answer) _ _
       c.in_ok-taken.field-0 (Some c.in-Some.taken) c.in-Some.is
       c.in_ok-taken.ensures.takes;
   answers = (refl, c.answer_committed.ensures);

@@ -14,7 +14,7 @@ loop-done-init g c = record {
 pub returns-in_err-done-clause-turns : goal.returns-in_err-done-clause-turns
 returns-in_err-done-clause-turns g c =
     as_one _ _ _ _ _ _ _ g.met.B.Book.legal g.met.B.Book.first g.met.B.Book.found c.args.day _ _ _ _
-        _ _
+    _ _
     (batch_unprinted (IsBatch g.B.Book.faults g.B.Book.honest g.B.Book.terms g.B.Book.history
     g.B.Book.committed g.B.Book.clean g.B.Book.may_find c.args.day)
     (g.L.Link.trace_of c.args.link.now, c.args.server.now.book) (
@@ -72,13 +72,13 @@ all_done done count few past = omega (arith, few, past)
 pub returns-clause-turns : goal.returns-clause-turns
 returns-clause-turns g c =
     as_one _ _ _ _ _ _ _ g.met.B.Book.legal g.met.B.Book.first g.met.B.Book.found c.args.day _ _ _ _
-        c.args.count _
+    c.args.count _
     (all_served _ _ _ _ _ c.loop-done.done c.args.count c.loop-done.invariant.served
     (all_done c.loop-done.done c.args.count c.loop-done.invariant.few c.loop-done-test.false))
 
 pub returns-in_default-clause-turns : goal.returns-in_default-clause-turns
 returns-in_default-clause-turns g c =
     as_one _ _ _ _ _ _ _ g.met.B.Book.legal g.met.B.Book.first g.met.B.Book.found c.args.day _ _ _ _
-        c.args.count _
+    c.args.count _
     (served_to_no_day _ _ _ _ _ _ c.loop-done.done c.args.count c.fail_by_clock.result
     c.loop-done.invariant.served c.loop-done-test.true c.fail_by_clock.ensures)

@@ -40,5 +40,5 @@ returns-clause-same g c = λ none. c.into_connection-connection.ensures.same
 pub returns-clause-stop : goal.returns-clause-stop
 returns-clause-stop g c = finds_the_same g.S.Store c.args.self c.commit_rest-committed.new.self
     (record c.args.self { conn = c.into_connection-connection.result })
-    (history_of g.S.Store c.args.self) c.into_connection-connection.ensures.same
+    (λ calls. calls ≡ history_of g.S.Store c.args.self) c.into_connection-connection.ensures.same
     (sym c.commit_rest-committed.ensures.same_terms) c.commit_rest-committed.ensures.unchanged.stop

@@ -52,7 +52,7 @@ returns-clause-unchanged g c =
           c.commit_calls-written.new.pending.items c.counted.new.faults)
           (history_in (state g.S.Store c.self.inside.conn).now
           ++ calls_of c.self.inside.pending.items) w.clean refl
-          (calls_of c.self.inside.pending.items, refl) (λ clean db left.
+          (λ clean db left.
           let was_clean : HasCleanDisk (state g.S.Store c.self.inside.conn) =
           omega (arith, w.clean, clean) in
           let was_open = (rw (← c.self.view_is) at c.requires) was_clean in

@@ -1,5 +1,4 @@
 use Rattle.std.proofs.Common.{◌++◌, ◌∷◌, [], arith, refl}
-use Rattle.std.proofs.lemmas.List.{append_assoc}
 use Rattle.sqlite.specs.State.{HasCleanDisk}
 use Rattle.sqlite.specs.Held.{state}
 use Rattle.s10_statements.proofs.CrashLemmas.{either}
@@ -70,11 +69,7 @@ returns-clause-stop g c = rw (← c.self.view_is) (λ answered.
     (ledger_of c.keep_call-kept.new.conn c.self.inside.settings c.keep_call-kept.new.index
     c.keep_call-kept.new.pending.items c.counted.new.faults)
     ((history_in (state g.S.Store conn).now ++ calls_of c.self.inside.pending.items)
-    ++ c.args.entry ∷ []) k.clean refl (
-      calls_of c.self.inside.pending.items ++ c.args.entry ∷ [],
-      append_assoc (history_in (state g.S.Store conn).now) (calls_of c.self.inside.pending.items)
-          (c.args.entry ∷ []),
-    ) (λ clean db left.
+    ++ c.args.entry ∷ []) k.clean refl (λ clean db left.
     let was_clean : HasCleanDisk (state g.S.Store conn) = omega (arith, k.clean, clean) in
     let was_open = answered was_clean in
     let honest = sound_is_honest g.S.Store conn c.self.inside.settings c.self.inside.index

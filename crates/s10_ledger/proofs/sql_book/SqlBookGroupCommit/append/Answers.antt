@@ -5,7 +5,8 @@ use Rattle.sqlite_trees.specs.declared.store.Store.{Ghosts}
 use Rattle.sqlite.specs.State.{HasCleanDisk}
 use Rattle.sqlite.specs.Held.{Held, state}
 use Rattle.s10_history.specs.declared.entry.Entry.{Entry}
-use Rattle.s10_book.proofs.Calls.{FindsAfter-refl, finds_after_unchanged}
+use Rattle.s10_book.specs.Book.{IsPerhapsWith}
+use Rattle.s10_book.proofs.Calls.{FindsAfter-refl, finds_one_more}
 use Rattle.s10_ledger.specs.Ledger.{Ledger, history_in, history_of}
 use Rattle.s10_ledger.proofs.BookLemmas.{follows_still, finds_the_same}
 use Rattle.s10_ledger.proofs.sql_book.SqlBookGroupCommit.append.Goals as goal
@@ -53,8 +54,8 @@ returns-in-Err-clause-opened g c = λ clean. tt
 pub returns-in-Err-clause-stop : goal.returns-in-Err-clause-stop
 returns-in-Err-clause-stop g c =
     let mid = c.make_room.new.self in
-    finds_after_unchanged (c.args.entry ∷ []) c.in-Err.ensures.unchanged
-    (FindsAfter-refl mid (history_of g.S.Store mid ++ c.args.entry ∷ []))
+    finds_one_more c.args.entry c.in-Err.ensures.unchanged
+    (FindsAfter-refl mid (IsPerhapsWith (history_of g.S.Store mid) c.args.entry))
 
 pub returns-in-Err-clause-ok : goal.returns-in-Err-clause-ok
 returns-in-Err-clause-ok g c = λ honest. tt
@@ -89,10 +90,10 @@ returns-clause-opened g c = λ clean. given c.append_call.result _
 pub returns-clause-stop : goal.returns-clause-stop
 returns-clause-stop g c =
     let mid = c.make_room.new.self in
-    let whole = history_of g.S.Store mid ++ c.args.entry ∷ [] in
-    finds_after_unchanged (c.args.entry ∷ []) c.in_default.ensures.unchanged
-    (finds_the_same g.S.Store mid mid c.append_call.new.self whole
-    c.append_call.ensures.same_conn c.append_call.ensures.same_terms (FindsAfter-refl mid whole))
+    let also = IsPerhapsWith (history_of g.S.Store mid) c.args.entry in
+    finds_one_more c.args.entry c.in_default.ensures.unchanged
+    (finds_the_same g.S.Store mid mid c.append_call.new.self also
+    c.append_call.ensures.same_conn c.append_call.ensures.same_terms (FindsAfter-refl mid also))
 
 pub returns-clause-ok : goal.returns-clause-ok
 returns-clause-ok g c = λ honest.
