@@ -431,8 +431,8 @@ def checksums(room, command):
 
 def count_turns(room, command):
     """Draws once more by s10client.py, stops the server, and counts its turns. The number of quiet seconds is any."""
-    (room.folder / "example.py").write_text(python_block("contrib/README.md", "make_notes("), encoding="utf-8")
-    compare("the example of s10client.py", ["RA000000014GB"], room.must("python3 example.py"))
+    (room.folder / "python/example.py").write_text(python_block("contrib/README.md", "make_notes("), encoding="utf-8")
+    compare("the example of s10client.py", ["RA000000014GB"], room.must("python3 python/example.py"))
     room.stop()
     _, came = room.run(command.text)
     kinds = [sorted(line for line in lines if not line.endswith(" quiet")) for lines in (command.shown, came)]
@@ -446,7 +446,7 @@ def check_texts(room, command):
 
 
 CONTRIB = {
-    "python3 test_s10client.py": run_and_compare_words,
+    "python3 python/test_s10client.py": run_and_compare_words,
     "python3 write_texts.py --check": check_texts,
     "python3 draw.py": draw_by_the_client,
     "cksum": checksums,

@@ -50,8 +50,8 @@ for page in README.md docs/OPERATING.md docs/TROUBLESHOOTING.md docs/DATAGRAMS.m
     put 644 "$root/$page" "$doc/$(basename "$page")"
 done
 put 644 "$contrib/README.md" "$doc/contrib.md"
-for piece in s10client.py test_s10client.py turns.awk health; do
-    put 644 "$contrib/$piece" "$doc/examples/$piece"
+for piece in python/s10client.py python/test_s10client.py turns.awk health; do
+    put 644 "$contrib/$piece" "$doc/examples/$(basename "$piece")"
 done
 cat > "$work/changelog" <<END
 s10 ($version) unstable; urgency=medium

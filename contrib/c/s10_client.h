@@ -4,7 +4,7 @@
  * it is sent again until its reply comes; and after a stop it is asked again before any other. So
  * no number is used for two requests, and no identifier is lost.
  *
- * One line of JSON, as contrib/s10client.py has it: the customer, the next number, the last number
+ * One line of JSON, as contrib/python/s10client.py has it: the customer, the next number, the last number
  * and the datagram of the last request. NOTES.lock is locked while a session has the notes open,
  * and NOTES.new is the next state before it is renamed.
  *

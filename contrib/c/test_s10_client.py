@@ -16,7 +16,7 @@ import time
 from collections import Counter
 from pathlib import Path
 
-sys.path.insert(0, str(Path(__file__).resolve().parent.parent))
+sys.path.insert(0, str(Path(__file__).resolve().parent.parent / "python"))
 from s10client import Client                      # noqa: E402
 from test_s10client import DAY, Proxy, Server, s10  # noqa: E402
 
