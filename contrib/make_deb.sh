@@ -1,31 +1,34 @@
 #!/usr/bin/env bash
-# Builds a Debian package of the built program, with the unit, the man page, the completions, the dissector and the
-# pages. The man page and the completions are written from the help texts of this program.
+# Builds Debian packages for the architecture of this machine.
 #
 #   bash make_deb.sh PROGRAM [FOLDER]
+#   bash make_deb.sh LIBRARY.a [FOLDER]
 #
-# Prints the name of the package, which is put into FOLDER (by default the current one). MAINTAINER is the packager, as
+# Of the built program it builds s10, with the unit, the man page, the completions, the dissector and the pages. The man
+# page and the completions are written from the help texts of this program. Of the built static library of c/README.md it
+# builds libs10-0, the shared library, and libs10-dev, with the header, both libraries, the pkg-config file and the client.
+#
+# Prints the names of the packages, which are put into FOLDER (by default the current one). MAINTAINER is the packager, as
 # 'Name <address>'; by default git's user.name and user.email.
 set -euo pipefail
 
 if [ $# -lt 1 ] || [ $# -gt 2 ]; then
-    sed -n '5p' "$0" >&2
+    sed -n '4,5p' "$0" >&2
     exit 2
 fi
-program=$(readlink -f "$1")
+built=$(readlink -f "$1")
 folder=$(readlink -f "${2:-.}")
 contrib=$(dirname "$(readlink -f "${BASH_SOURCE[0]}")")
 root=$(dirname "$contrib")
 
-version=$("$program" --version | cut -d' ' -f2)
 arch=$(dpkg --print-architecture)
+libraries=lib/$(dpkg-architecture -qDEB_HOST_MULTIARCH)
 maintainer=${MAINTAINER:-"$(git -C "$root" config user.name) <$(git -C "$root" config user.email)>"}
 export SOURCE_DATE_EPOCH=${SOURCE_DATE_EPOCH:-$(git -C "$root" log -1 --format=%ct)}
 date=$(date -Ru -d "@$SOURCE_DATE_EPOCH")
 
 work=$(mktemp -d)
 trap 'rm -rf "$work"' EXIT
-tree=$work/tree
 umask 022
 
 # put MODE FILE PATH: copies a file of this repository to its path in the package.
@@ -33,35 +36,20 @@ put() {
     install -D -m "$1" "$2" "$tree$3"
 }
 
-put 755 "$program" /usr/bin/s10
-strip --strip-unneeded --remove-section=.comment "$tree/usr/bin/s10"
-mkdir "$work/texts"
-python3 "$contrib/write_texts.py" "$program" "$work/texts"
-put 644 "$work/texts/s10.1" /usr/share/man/man1/s10.1
-gzip -9n "$tree/usr/share/man/man1/s10.1"
-put 644 "$work/texts/s10.bash" /usr/share/bash-completion/completions/s10
-put 644 "$work/texts/_s10" /usr/share/zsh/vendor-completions/_s10
-put 644 "$work/texts/s10.fish" /usr/share/fish/vendor_completions.d/s10.fish
-put 644 "$contrib/s10.service" /lib/systemd/system/s10.service
-put 644 "$contrib/s10.lua" "/usr/lib/$(dpkg-architecture -qDEB_HOST_MULTIARCH)/wireshark/plugins/s10.lua"
-
-doc=/usr/share/doc/s10
-for page in README.md docs/OPERATING.md docs/TROUBLESHOOTING.md docs/DATAGRAMS.md docs/LEDGER.md docs/RULES.md docs/AT_MOST_ONCE.md; do
-    put 644 "$root/$page" "$doc/$(basename "$page")"
-done
-put 644 "$contrib/README.md" "$doc/contrib.md"
-for piece in python/s10client.py python/test_s10client.py turns.awk health; do
-    put 644 "$contrib/$piece" "$doc/examples/$(basename "$piece")"
-done
-cat > "$work/changelog" <<END
+# start NAME: begins a package, with its changelog and copyright.
+start() {
+    name=$1
+    tree=$work/$name
+    doc=/usr/share/doc/$name
+    mkdir -p "$tree/DEBIAN" "$tree$doc"
+    gzip -9n > "$tree$doc/changelog.gz" <<END
 s10 ($version) unstable; urgency=medium
 
-  * The program s10 $version.
+  * Version $version.
 
  -- $maintainer  $date
 END
-gzip -9nc "$work/changelog" > "$tree$doc/changelog.gz"
-cat > "$tree$doc/copyright" <<END
+    cat > "$tree$doc/copyright" <<END
 Format: https://www.debian.org/doc/packaging-manuals/copyright-format/1.0/
 Upstream-Name: Hapiwro
 
@@ -71,23 +59,106 @@ License: Apache-2.0
  On Debian systems the text of the Apache License, version 2.0, is in
  /usr/share/common-licenses/Apache-2.0.
 END
+}
 
-# Which version of the C library the program needs.
-mkdir -p "$work/depends/debian"
-printf 'Source: s10\n\nPackage: s10\nArchitecture: any\n' > "$work/depends/debian/control"
-depends=$(cd "$work/depends" && dpkg-shlibdeps -O "$tree/usr/bin/s10" 2> /dev/null | sed -n 's/^shlibs:Depends=//p')
+# needs_of FILE: prints which version of the C library a program or a shared library needs.
+needs_of() {
+    mkdir -p "$work/depends/debian"
+    printf 'Source: s10\n\nPackage: s10\nArchitecture: any\n' > "$work/depends/debian/control"
+    (cd "$work/depends" && dpkg-shlibdeps -O "$1" 2> /dev/null | sed -n 's/^shlibs:Depends=//p')
+}
 
-mkdir "$tree/DEBIAN"
-cat > "$tree/DEBIAN/control" <<END
-Package: s10
+# finish: builds the package. The fields that differ, and the description, are read from standard input.
+finish() {
+    {
+        cat <<END
+Package: $name
 Version: $version
 Architecture: $arch
 Maintainer: $maintainer
 Installed-Size: $(du -k -s --apparent-size --exclude=DEBIAN "$tree" | cut -f1)
-${depends:+Depends: $depends
-}Suggests: tshark
-Section: net
 Priority: optional
+END
+        grep -v '^Depends: $'
+    } > "$tree/DEBIAN/control"
+    (cd "$tree" && find . -path ./DEBIAN -prune -o -type f -printf '%P\0' | sort -z | xargs -0 md5sum > DEBIAN/md5sums)
+    package=$folder/${name}_${version}_$arch.deb
+    dpkg-deb --root-owner-group -Zxz --build "$tree" "$package" > /dev/null
+    echo "$package"
+}
+
+make_library() {
+    version=$(sed -n 's/^VERSION = //p' "$contrib/c/Makefile")
+    start libs10-dev
+    make -s -C "$contrib/c" BUILD="$work/build" LIBRARY="$built" PREFIX=/usr LIBDIR="/usr/$libraries" \
+        INCLUDEDIR=/usr/include DESTDIR="$tree" all install
+    shared=$tree/usr/$libraries/libs10.so.$version
+    strip --strip-unneeded --remove-section=.comment "$shared"
+    strip --strip-debug --remove-section=.comment --enable-deterministic-archives "$tree/usr/$libraries/libs10.a"
+    put 644 "$contrib/c/README.md" "$doc/README.md"
+    for piece in demo.c s10_client.c s10_client.h s10_draw.c; do
+        put 644 "$contrib/c/$piece" "$doc/examples/$piece"
+    done
+
+    # The shared library is a package of its own, for programs that were linked with it.
+    start libs10-0
+    mkdir -p "$tree/usr/$libraries"
+    mv "$shared" "${shared%/*}/libs10.so.0" "$tree/usr/$libraries"
+    echo "libs10 0 libs10-0 (>= $version)" > "$tree/DEBIAN/shlibs"
+    echo "activate-noawait ldconfig" > "$tree/DEBIAN/triggers"
+    finish <<END
+Depends: $(needs_of "$tree/usr/$libraries/libs10.so.$version")
+Source: s10
+Section: libs
+Multi-Arch: same
+Description: S10 identifiers of postal items and their datagrams, shared library
+ Programs in C, and in languages that call C, read and make item identifiers
+ of the UPU standard S10 with it, write the requests of the s10 service, and
+ read its replies.
+END
+
+    name=libs10-dev tree=$work/libs10-dev
+    finish <<END
+Depends: libs10-0 (= $version)
+Source: s10
+Section: libdevel
+Multi-Arch: same
+Description: S10 identifiers of postal items and their datagrams, for C
+ Programs in C, and in languages that call C, read and make item identifiers
+ of the UPU standard S10 with it, write the requests of the s10 service, and
+ read its replies.
+ .
+ The package has the header, the static library, the pkg-config file, and
+ the sources of a client for POSIX systems.
+END
+}
+
+make_program() {
+    version=$("$built" --version | cut -d' ' -f2)
+    start s10
+    put 755 "$built" /usr/bin/s10
+    strip --strip-unneeded --remove-section=.comment "$tree/usr/bin/s10"
+    mkdir "$work/texts"
+    python3 "$contrib/write_texts.py" "$built" "$work/texts"
+    put 644 "$work/texts/s10.1" /usr/share/man/man1/s10.1
+    gzip -9n "$tree/usr/share/man/man1/s10.1"
+    put 644 "$work/texts/s10.bash" /usr/share/bash-completion/completions/s10
+    put 644 "$work/texts/_s10" /usr/share/zsh/vendor-completions/_s10
+    put 644 "$work/texts/s10.fish" /usr/share/fish/vendor_completions.d/s10.fish
+    put 644 "$contrib/s10.service" /lib/systemd/system/s10.service
+    put 644 "$contrib/s10.lua" "/usr/$libraries/wireshark/plugins/s10.lua"
+    for page in README.md docs/OPERATING.md docs/TROUBLESHOOTING.md docs/DATAGRAMS.md docs/LEDGER.md docs/RULES.md docs/AT_MOST_ONCE.md; do
+        put 644 "$root/$page" "$doc/$(basename "$page")"
+    done
+    put 644 "$contrib/README.md" "$doc/contrib.md"
+    for piece in python/s10client.py python/libs10.py python/test_s10client.py turns.awk health; do
+        put 644 "$contrib/$piece" "$doc/examples/$(basename "$piece")"
+    done
+    write_scripts
+    finish <<END
+Depends: $(needs_of "$tree/usr/bin/s10")
+Suggests: tshark
+Section: net
 Description: server and tools for S10 identifiers of postal items
  A post grants ranges of serials to its customers, and their label printers
  draw item identifiers of the UPU standard S10 from them, over UDP. A request
@@ -97,9 +168,11 @@ Description: server and tools for S10 identifiers of postal items
  The program makes, serves, reports and audits a ledger, which is an SQLite
  file, asks a server, and checks identifiers.
 END
+}
 
-# The unit is neither enabled nor started: a ledger must be created first.
-cat > "$tree/DEBIAN/postinst" <<'END'
+# write_scripts: writes what dpkg runs for the unit. It is neither enabled nor started: a ledger must be created first.
+write_scripts() {
+    cat > "$tree/DEBIAN/postinst" <<'END'
 #!/bin/sh
 set -e
 if [ "$1" = configure ] || [ "$1" = abort-upgrade ] || [ "$1" = abort-deconfigure ] || [ "$1" = abort-remove ]; then
@@ -116,14 +189,14 @@ if [ "$1" = configure ] || [ "$1" = abort-upgrade ] || [ "$1" = abort-deconfigur
     fi
 fi
 END
-cat > "$tree/DEBIAN/prerm" <<'END'
+    cat > "$tree/DEBIAN/prerm" <<'END'
 #!/bin/sh
 set -e
 if [ "$1" = remove ] && [ -d /run/systemd/system ]; then
     deb-systemd-invoke stop s10.service > /dev/null || true
 fi
 END
-cat > "$tree/DEBIAN/postrm" <<'END'
+    cat > "$tree/DEBIAN/postrm" <<'END'
 #!/bin/sh
 set -e
 # The ledger is never removed.
@@ -140,9 +213,10 @@ if [ "$1" = purge ] && command -v deb-systemd-helper > /dev/null; then
     deb-systemd-helper unmask s10.service > /dev/null || true
 fi
 END
-chmod 755 "$tree"/DEBIAN/{postinst,prerm,postrm}
-(cd "$tree" && find usr lib -type f -print0 | sort -z | xargs -0 md5sum > DEBIAN/md5sums)
+    chmod 755 "$tree"/DEBIAN/{postinst,prerm,postrm}
+}
 
-package=$folder/s10_${version}_$arch.deb
-dpkg-deb --root-owner-group -Zxz --build "$tree" "$package" > /dev/null
-echo "$package"
+case $built in
+*.a) make_library ;;
+*) make_program ;;
+esac
