@@ -1,4 +1,4 @@
-"""A client of an s10 server, with Python's standard library only. It uses versions 1 and 2 of the datagrams.
+"""A client of an s10 server. It uses versions 1 and 2 of the datagrams.
 
     from s10client import Client, make_notes
 
@@ -19,6 +19,10 @@ it was answered. A repeat costs the server no write and changes nothing.
 
 Each refusal by the server is a subclass of `Refused`. A text or a number that fits no datagram
 raises `ValueError`, and uses no number. A client is for one thread at a time.
+
+This file needs Python's standard library only. If `libs10.py` is beside it and finds the C library, the
+proved code of that library numbers and writes the requests and reads the replies. Otherwise the code in
+this file does so. `library` names the library, or is None.
 """
 
 import json
@@ -29,10 +33,16 @@ import struct
 import time
 from typing import NamedTuple
 
+try:
+    import libs10
+    library = libs10.PATH
+except ImportError:
+    libs10 = library = None
+
 __all__ = [
     "Client", "make_notes", "Drawn", "Told", "S10Error", "GaveUp", "Unanswered", "NumbersSpent",
     "Refused", "NotThePost", "BadGrant", "Overlap", "NoRange", "NoneFree", "NotYours", "NotIssued",
-    "AlreadyVoid", "NumberReused", "NoSuchRange", "Closed", "check_digit",
+    "AlreadyVoid", "NumberReused", "NoSuchRange", "Closed", "check_digit", "library",
 ]
 
 GRANT, DRAW, VOID, QUERY, DRAW_MANY, WITHDRAW = 1, 2, 3, 4, 5, 6
@@ -44,6 +54,15 @@ MOST = 16
 _HEADER = struct.Struct(">2sBBII")
 _MAGIC, _REPLY = b"S1", 0x80
 _VERSIONS = {GRANT: 1, DRAW: 1, VOID: 1, QUERY: 1, DRAW_MANY: 2, WITHDRAW: 2}
+# The fields of each kind after the header, in order.
+_BODIES = {
+    GRANT: (">I2s2sII", "holder service country first last"),
+    DRAW: (">2s2s", "service country"),
+    VOID: (">13s", "text"),
+    QUERY: (">13s", "text"),
+    DRAW_MANY: (">2s2sB", "service country count"),
+    WITHDRAW: (">I", "range"),
+}
 _STATUSES = ("unknown", "never", "issued", "voided")
 _LONGEST = 512
 
@@ -145,8 +164,7 @@ class Told(NamedTuple):
 
 def check_digit(serial):
     """Returns the check digit of a serial number, by the standard's weights."""
-    total = sum(w * int(d) for w, d in zip((8, 6, 4, 2, 3, 5, 9, 7), f"{serial:08}"))
-    return {10: 0, 11: 5}.get(11 - total % 11, 11 - total % 11)
+    return _code.check_digit(_serial(serial))
 
 
 class Client:
@@ -205,31 +223,31 @@ class Client:
 
     def grant(self, holder, service, country, first, last):
         """Grants serials to a customer, as the post. Returns the number of the range."""
-        body = struct.pack(">I2s2sII", _u32(holder, "holder"), _letters(service, "service"),
-                           _letters(country, "country"), _serial(first), _serial(last))
-        return self._ask(GRANT, body)
+        return self._ask(GRANT, holder=_u32(holder, "holder"), service=_letters(service, "service"),
+                         country=_letters(country, "country"), first=_serial(first), last=_serial(last))
 
     def withdraw(self, range_number):
         """Closes a range for ever, as the post. The reply to its grant has its number."""
-        self._ask(WITHDRAW, _u32(range_number, "range").to_bytes(4, "big"))
+        self._ask(WITHDRAW, range=_u32(range_number, "range"))
 
     def draw(self, service, country):
         """Draws the next free identifier of a service and country. Returns a `Drawn`."""
-        return self._ask(DRAW, _letters(service, "service") + _letters(country, "country"))
+        return self._ask(DRAW, service=_letters(service, "service"), country=_letters(country, "country"))
 
     def draw_many(self, service, country, count):
         """Draws a sheet of 1 to 16 identifiers, all or none. Returns a list of `Drawn`."""
         if not (isinstance(count, int) and 1 <= count <= MOST):
             raise ValueError(f"a sheet has 1 to {MOST} identifiers, not {count!r}")
-        return self._ask(DRAW_MANY, _letters(service, "service") + _letters(country, "country") + bytes([count]))
+        return self._ask(DRAW_MANY, service=_letters(service, "service"), country=_letters(country, "country"),
+                         count=count)
 
     def void(self, identifier):
         """Voids an identifier."""
-        self._ask(VOID, _identifier(identifier))
+        self._ask(VOID, text=_identifier(identifier))
 
     def query(self, identifier):
         """Queries an identifier. Returns a `Told`."""
-        return self._ask(QUERY, _identifier(identifier))
+        return self._ask(QUERY, text=_identifier(identifier))
 
     def again(self):
         """Sends the last request again, with its number. Returns or raises what it did, or would have."""
@@ -247,12 +265,9 @@ class Client:
         """The number of the last request, or None."""
         return None if self.request is None else _HEADER.unpack_from(self.request)[4]
 
-    def _ask(self, kind, body):
-        if self.is_open:
-            raise Unanswered(f"request {self.number_of_request} has no reply yet")
-        if self.number > self.last:
-            raise NumbersSpent(f"number {self.last} was the last one")
-        request = _HEADER.pack(_MAGIC, _VERSIONS[kind], kind, self.customer, self.number) + body
+    def _ask(self, kind, **fields):
+        request = _code.submit(self.customer, self.number, self.last, self.request if self.is_open else None,
+                               kind, fields)
         self._write_down(request)
         self.number += 1
         self.request, self.is_open = request, True
@@ -277,44 +292,168 @@ class Client:
                     cause = error
                     time.sleep(min(left, 0.05))
                     continue
-                reply = _read_reply(self.request, datagram)
+                reply = _code.accept(self.request, datagram)
                 if reply is not None:
                     return reply
         raise GaveUp(f"request {self.number_of_request}: no reply") from cause
 
 
-def _read_reply(request, datagram):
-    """Returns the outcome byte and the answer, or None if the bytes are no reply to this request."""
-    at, kind = len(request), request[3]
-    if datagram[:at] != request[:3] + bytes([kind | _REPLY]) + request[4:] or len(datagram) == at:
+class _InPython:
+    """Numbers and writes requests, and reads replies, without the C library."""
+
+    @staticmethod
+    def check_digit(serial):
+        """Returns the check digit of a serial number."""
+        total = sum(w * int(d) for w, d in zip((8, 6, 4, 2, 3, 5, 9, 7), f"{serial:08}"))
+        return {10: 0, 11: 5}.get(11 - total % 11, 11 - total % 11)
+
+    @classmethod
+    def is_identifier(cls, text):
+        """Returns whether the bytes are an identifier."""
+        return (re.fullmatch(rb"[A-Z]{2}[0-9]{9}[A-Z]{2}", text) is not None
+                and cls.check_digit(int(text[2:10])) == text[10] - ord("0"))
+
+    @classmethod
+    def submit(cls, customer, number, last, pending, kind, fields):
+        """Returns the datagram of a request with the next number. `pending` is the request without a reply, or None."""
+        if pending is not None:
+            raise _unanswered(pending)
+        if number > last:
+            raise _numbers_spent(last)
+        layout, names = _BODIES[kind]
+        request = (_HEADER.pack(_MAGIC, _VERSIONS[kind], kind, customer, number)
+                   + struct.pack(layout, *(fields[name] for name in names.split())))
+        cls.decode(request)
+        return request
+
+    @classmethod
+    def decode(cls, request):
+        """Returns customer, number, kind and fields of the datagram of a request. Others raise `ValueError`."""
+        if len(request) < _HEADER.size:
+            raise ValueError("short")
+        magic, version, kind, customer, number = _HEADER.unpack_from(request)
+        if magic != _MAGIC or _VERSIONS.get(kind) != version:
+            raise ValueError("no request")
+        layout, names = _BODIES[kind]
+        if len(request) != _HEADER.size + struct.calcsize(layout):
+            raise ValueError("datagram-length")
+        fields = dict(zip(names.split(), struct.unpack_from(layout, request, _HEADER.size)))
+        for name, value in fields.items():
+            if not cls._fits(name, value):
+                raise ValueError(f"{name} of a request")
+        return customer, number, kind, fields
+
+    @classmethod
+    def _fits(cls, name, value):
+        if name in ("service", "country"):
+            return re.fullmatch(rb"[A-Z]{2}", value) is not None
+        if name in ("first", "last"):
+            return value <= LAST_SERIAL
+        if name == "count":
+            return 1 <= value <= MOST
+        return name != "text" or cls.is_identifier(value)
+
+    @classmethod
+    def accept(cls, request, datagram):
+        """Returns the outcome byte and the answer, or None if the datagram is no reply to this request."""
+        try:
+            kind = cls.decode(request)[2]
+        except ValueError:
+            return None
+        at = len(request)
+        if datagram[:at] != request[:3] + bytes([kind | _REPLY]) + request[4:] or len(datagram) == at:
+            return None
+        outcome, rest = datagram[at], datagram[at + 1:]
+        if outcome:
+            fits = outcome in _REFUSALS and kind in _REFUSALS[outcome][1]
+            return (outcome, None) if fits and not rest else None
+        if kind == GRANT and len(rest) == 4:
+            return 0, int.from_bytes(rest, "big")
+        if kind in (DRAW, DRAW_MANY) and len(rest) == 4 + 13 * (request[16] if kind == DRAW_MANY else 1):
+            texts = [rest[at:at + 13] for at in range(4, len(rest), 13)]
+            are_right = all(map(cls.is_identifier, texts))
+            return (0, _drawn(kind, texts, int.from_bytes(rest[:4], "big"))) if are_right else None
+        if kind in (VOID, WITHDRAW) and not rest:
+            return 0, None
+        if kind == QUERY and len(rest) == 5 and rest[0] < len(_STATUSES):
+            day = int.from_bytes(rest[1:], "big")
+            return (0, Told(_STATUSES[rest[0]], day)) if rest[0] >= 2 or day == 0 else None
         return None
-    outcome, rest = datagram[at], datagram[at + 1:]
-    if outcome:
-        fits = outcome in _REFUSALS and kind in _REFUSALS[outcome][1]
-        return (outcome, None) if fits and not rest else None
-    if kind == GRANT and len(rest) == 4:
-        return 0, int.from_bytes(rest, "big")
-    if kind == DRAW and len(rest) == 17 and _is_identifier(rest[4:]):
-        return 0, Drawn(rest[4:].decode("ascii"), int.from_bytes(rest[:4], "big"))
-    if kind == DRAW_MANY and len(rest) == 4 + 13 * request[16]:
-        day, texts = int.from_bytes(rest[:4], "big"), [rest[at:at + 13] for at in range(4, len(rest), 13)]
-        return (0, [Drawn(text.decode("ascii"), day) for text in texts]) if all(map(_is_identifier, texts)) else None
-    if kind in (VOID, WITHDRAW) and not rest:
-        return 0, None
-    if kind == QUERY and len(rest) == 5 and rest[0] < len(_STATUSES):
-        day = int.from_bytes(rest[1:], "big")
-        return (0, Told(_STATUSES[rest[0]], day)) if rest[0] >= 2 or day == 0 else None
-    return None
 
 
-def _is_identifier(text):
-    return (re.fullmatch(rb"[A-Z]{2}[0-9]{9}[A-Z]{2}", text) is not None
-            and check_digit(int(text[2:10])) == text[10] - ord("0"))
+class _InLibrary:
+    """The same by the proved code of the C library."""
+
+    @staticmethod
+    def check_digit(serial):
+        """Returns the check digit of a serial number."""
+        return libs10.make(b"AA", serial, b"AA").text[10] - ord("0")
+
+    @staticmethod
+    def is_identifier(text):
+        """Returns whether the bytes are an identifier."""
+        try:
+            libs10.read(text)
+        except libs10.Refused:
+            return False
+        return True
+
+    @staticmethod
+    def submit(customer, number, last, pending, kind, fields):
+        """Returns the datagram of a request with the next number. `pending` is the request without a reply, or None."""
+        try:
+            return libs10.submit(customer, number, last, pending, kind, fields)
+        except libs10.Refused as refused:
+            if refused.code == libs10.BUSY:
+                raise _unanswered(pending) from None
+            if refused.code == libs10.NUMBERS_SPENT:
+                raise _numbers_spent(last) from None
+            raise
+
+    @staticmethod
+    def decode(request):
+        """Returns customer, number, kind and fields of the datagram of a request. Others raise `ValueError`."""
+        found = libs10.decode(request)
+        names = _BODIES[found.kind][1].split()
+        return found.customer, found.number, found.kind, {name: libs10.field(found, name) for name in names}
+
+    @staticmethod
+    def accept(request, datagram):
+        """Returns the outcome byte and the answer, or None if the datagram is no reply to this request."""
+        try:
+            outcome = libs10.accept(request, datagram)
+        except libs10.Refused:
+            return None
+        kind, answer = request[3], None
+        if outcome.code == 0:
+            if kind == GRANT:
+                answer = outcome.range
+            elif kind in (DRAW, DRAW_MANY):
+                answer = _drawn(kind, libs10.texts(outcome), outcome.day)
+            elif kind == QUERY:
+                answer = Told(_STATUSES[outcome.status], outcome.day)
+        return outcome.code, answer
+
+
+_code = _InPython if libs10 is None else _InLibrary
+
+
+def _drawn(kind, texts, day):
+    drawn = [Drawn(text.decode("ascii"), day) for text in texts]
+    return drawn if kind == DRAW_MANY else drawn[0]
+
+
+def _unanswered(pending):
+    return Unanswered(f"request {_HEADER.unpack_from(pending)[4]} has no reply yet")
+
+
+def _numbers_spent(last):
+    return NumbersSpent(f"number {last} was the last one")
 
 
 def _identifier(text):
     data = text.encode("ascii", "replace")
-    if not _is_identifier(data):
+    if not _code.is_identifier(data):
         raise ValueError(f"{text!r} is no identifier")
     return data
 
@@ -373,11 +512,11 @@ class _Notes:
             self.customer, self.last = _u32(noted["customer"], "customer"), _u32(noted["last"], "number")
             self.next, request = noted["next"], noted["request"]
             self.request = None if request is None else bytes.fromhex(request)
-            if self.request is None:
-                _u32(self.next, "number")
-            elif _HEADER.unpack_from(self.request)[3:] != (self.customer, self.next - 1):
+            if self.next != self.last + 1 and _u32(self.next, "number") > self.last:
+                raise ValueError("the next number is above the last")
+            if self.request is not None and _code.decode(self.request)[:2] != (self.customer, self.next - 1):
                 raise ValueError("the request has another customer or number")
-        except (ValueError, TypeError, KeyError, struct.error) as fault:
+        except (ValueError, TypeError, KeyError) as fault:
             raise ValueError(f"{self._path} holds no notes: {fault}") from fault
 
     def write_down(self, request):

@@ -2,7 +2,8 @@
 
     S10=/path/to/s10 python3 test_s10client.py
 
-Without S10 the program `s10` of the PATH is used.
+Without S10 the program `s10` of the PATH is used. S10_LIBRARY is as libs10.py says: `S10_LIBRARY=` tests the code in
+Python, and a path that of the C library. The first line names the library, if one is used.
 """
 
 import os
@@ -338,15 +339,15 @@ class Loss(ServedTest):
             request = client.request
             link.sendto(request, self.server.address)
             reply = link.recv(512)
-            self.assertEqual(s10client._read_reply(request, reply)[0], 0)
+            self.assertEqual(s10client._code.accept(request, reply)[0], 0)
             for at in range(len(request)):
                 for bit in range(8):
                     changed = bytearray(reply)
                     changed[at] ^= 1 << bit
-                    self.assertIsNone(s10client._read_reply(request, bytes(changed)))
+                    self.assertIsNone(s10client._code.accept(request, bytes(changed)))
             for length in range(len(reply)):
-                self.assertIsNone(s10client._read_reply(request, reply[:length]))
-            self.assertIsNone(s10client._read_reply(request, reply + b"\0"))
+                self.assertIsNone(s10client._code.accept(request, reply[:length]))
+            self.assertIsNone(s10client._code.accept(request, reply + b"\0"))
 
     def test_the_same_bytes_are_read_as_the_program_reads_them(self):
         post, seven = self.client(0), self.client(7)
@@ -370,7 +371,7 @@ class Loss(ServedTest):
                     changed[choose.randrange(len(request), len(reply))] = choose.choice((
                         choose.randrange(256), choose.randrange(10), choose.randrange(48, 58)))
                 shown = not s10("show", changed.hex()).startswith("refused")
-                self.assertEqual(s10client._read_reply(request, bytes(changed)) is not None, shown)
+                self.assertEqual(s10client._code.accept(request, bytes(changed)) is not None, shown)
 
 
 class Notes(ServedTest):
@@ -491,4 +492,6 @@ class Datagrams(unittest.TestCase):
 if __name__ == "__main__":
     if PROGRAM is None:
         sys.exit("no program: set S10, or put s10 on the PATH")
+    if s10client.library is not None:
+        print(f"library: {s10client.library}", file=sys.stderr)
     unittest.main()
