@@ -1,11 +1,12 @@
 #!/usr/bin/env bash
 # Builds the C library and tries it as a C programmer would: the symbols that it needs and exports, the header as C11 and
-# C++17, demo.c alone, under the sanitizers and under valgrind, the example of contrib/c/README.md, the client with notes,
-# and a build for 64-bit ARM under qemu. The client draws from PROGRAM, by default crates/s10/out/s10, and is killed KILLS
-# times, by default 100. Says what it skipped because the machine lacks it. The last line is `c library ok`, or the status
-# is not 0.
+# C++17, demo.c alone, under the sanitizers and under valgrind, the example of contrib/c/README.md, the Debian packages,
+# the client in Python with the library and without, the client with notes, the commands of the library's pages (among
+# them Go, C# and Java), and a build for 64-bit ARM under qemu. The client draws from PROGRAM, by default
+# crates/s10/out/s10, and is killed KILLS times, by default 100. LIBRARY names a static library that is built already.
+# Says what it skipped because the machine lacks it. The last line is `c library ok`, or the status is not 0.
 #
-#     checks/c_library.sh [PROGRAM [KILLS]]
+#     [LIBRARY=LIBRARY.a] checks/c_library.sh [PROGRAM [KILLS]]
 set -euo pipefail
 top=$(dirname "$(dirname "$(readlink -f "${BASH_SOURCE[0]}")")")
 c=$top/contrib/c
@@ -23,7 +24,7 @@ fail() {
 have() {
     for tool in "$@"; do
         if ! command -v "$tool" >/dev/null; then
-            echo "skipped $what: no $tool"
+            echo "skipped $what: $tool"
             return 1
         fi
     done
@@ -34,7 +35,9 @@ make -s -C "$c" BUILD="$work/build" PREFIX="$work/prefix" all check install >mak
 grep passed make.log
 library=$work/build/libs10.a
 shared=$work/prefix/lib/libs10.so
-[ "$(sed -n 's/^VERSION = //p' "$c/Makefile")" = "$(sed -n 's/^## \([0-9.]*\).*/\1/p' "$top/CHANGELOG.md" | head -n 1)" ] || fail "the version is not that of CHANGELOG.md"
+version=$(sed -n 's/^## \([0-9.]*\).*/\1/p' "$top/CHANGELOG.md" | head -n 1)
+[ "$(sed -n 's/^VERSION = //p' "$c/Makefile")" = "$version" ] || fail "the Makefile has another version than CHANGELOG.md"
+grep -qx "version = \"$version\"" "$top/contrib/python/pyproject.toml" || fail "pyproject.toml has another version"
 
 # Memory functions of C and nothing else are needed; what the header declares and nothing else is exported.
 needed=$(nm -u "$library" | awk '$1 == "U" {print $2}' | sort -u | xargs)
@@ -80,11 +83,57 @@ if have pkg-config; then
     done
 fi
 
-# The same source is proved and compiled for another processor in a copy, since out/ has the library of this one.
+# The Debian packages: built twice, the same byte for byte; installed into a folder of their own; used; removed.
+what="Debian packages"
+if have dpkg dpkg-deb dpkg-shlibdeps pkg-config git; then
+    export MAINTAINER=${MAINTAINER:-Nobody <nobody@s10.example>}
+    mkdir -p packages again root/var/lib/dpkg/{info,updates,triggers}
+    touch root/var/lib/dpkg/{status,available}
+    bash "$top/contrib/make_deb.sh" "$library" packages >/dev/null
+    bash "$top/contrib/make_deb.sh" "$library" again >/dev/null
+    diff -r packages again || fail "two builds of the packages differ"
+    in_root="dpkg --root=$work/root --force-not-root --force-depends --force-bad-path"
+    $in_root -i packages/libs10-0_*.deb packages/libs10-dev_*.deb >dpkg.log 2>&1 || { cat dpkg.log; fail "dpkg -i"; }
+    libraries=$(dirname "$(find root/usr -name s10.pc)")
+    for link in "" -static; do
+        flags=$(PKG_CONFIG_SYSROOT_DIR=$work/root PKG_CONFIG_LIBDIR=$work/$libraries PKG_CONFIG_PATH='' \
+            PKG_CONFIG_ALLOW_SYSTEM_CFLAGS=1 PKG_CONFIG_ALLOW_SYSTEM_LIBS=1 pkg-config --cflags --libs s10)
+        cc -std=c11 $strict $link root/usr/share/doc/libs10-dev/examples/demo.c $flags -o packaged
+        LD_LIBRARY_PATH=$work/$(dirname "$libraries") ./packaged
+    done
+    (cd root/usr/share/doc/libs10-dev/examples && cc -std=c11 $strict s10_draw.c s10_client.c $flags -o "$work/packaged_draw")
+    $in_root -r libs10-dev libs10-0 >dpkg.log 2>&1 || { cat dpkg.log; fail "dpkg -r"; }
+    left=$(find root -path root/var/lib/dpkg -prune -o ! -type d -print)
+    [ -z "$left" ] || fail "removed packages left $left"
+    ls packages | xargs
+    what="lintian of the packages"
+    if have lintian; then
+        lintian --allow-root --fail-on error,warning packages/*.deb
+    fi
+fi
+
+program=$(readlink -f "${1:-$top/crates/s10/out/s10}")
+what="client in Python"
+if have python3; then
+    cp -r "$top/contrib/python" python
+    mkdir -p docs && cp "$top/docs/DATAGRAMS.md" docs
+    mkdir contrib && mv python contrib/python
+    S10_LIBRARY=$shared python3 contrib/python/test_library.py 2>python.log || { cat python.log; fail test_library.py; }
+    echo "test_library.py: $(grep '^Ran' python.log)"
+    for uses in "" "$shared"; do
+        what="client in Python with a server, library '$(basename "$uses")'"
+        if [ -x "$program" ]; then
+            S10=$program S10_LIBRARY=$uses python3 contrib/python/test_s10client.py 2>python.log || { cat python.log; fail "$what"; }
+            echo "$what: $(grep '^Ran' python.log)"
+        else
+            echo "skipped $what: $program is not built"
+        fi
+    done
+fi
+
 # The client with notes, killed at random moments over a network that loses datagrams.
 what="client with notes"
-program=$(readlink -f "${1:-$top/crates/s10/out/s10}")
-make -s -C "$c" BUILD="$work/build" LIBRARY="$top/crates/s10_c/out/libs10_c.a" s10_draw
+make -s -C "$c" BUILD="$work/build" LIBRARY="${LIBRARY:-$top/crates/s10_c/out/libs10_c.a}" s10_draw
 g++ -std=c++17 $strict -I"$c" -x c++ -fsyntax-only "$c/s10_client.h"
 if [ -x "$program" ] && have python3; then
     S10=$program python3 "$c/test_s10_client.py" build/s10_draw "${2:-100}"
@@ -92,6 +141,12 @@ else
     echo "skipped $what: $program is not built"
 fi
 
+what="pages of the library"
+if have python3; then
+    python3 "$top/checks/library_pages.py" "$program" "${LIBRARY:-$top/crates/s10_c/out/libs10_c.a}"
+fi
+
+# The same source is proved and compiled for another processor in a copy, since out/ has the library of this one.
 what="64-bit ARM"
 if have aarch64-linux-gnu-gcc qemu-aarch64; then
     mkdir -p copy/crates

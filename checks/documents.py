@@ -5,6 +5,7 @@
 
 The pages are README.md, SECURITY.md, CHANGELOG.md, docs/*.md and those of contrib. Each fenced command is run, or is in NOT_RUN
 with the reason. A command that is neither run nor in NOT_RUN is a failure, and so is an entry of NOT_RUN without a command.
+library_pages.py runs the commands of the pages of the C library.
 The numbers in the pages are compared by counts.py. Needs port 4000 of this machine, `sqlite3`, and `rt` of the Rattle kit.
 """
 
@@ -48,15 +49,10 @@ NOT_RUN = (
     ("# lintian", "root and lintian"),
     ("# dpkg", "root"),
     ("# ls /var/lib/private", "root and systemd"),
-    ("make", "the C library, which takes minutes to prove; checks/c_library.sh tries it"),
-    ("sudo make install", "root"),
-    ("cc -std=c11 label.c", "the C library; checks/c_library.sh tries it"),
-    ("./label", "the C library; checks/c_library.sh tries it"),
-    ("s10_draw", "the C library; checks/c_library.sh tries it"),
-    ("cat printer.notes", "the C library"),
-    ("S10=$(command -v s10) python3 test_s10_client.py", "the C library; checks/c_library.sh tries it"),
-    ("(cd crates/s10_c && rt lib", "the C library for another processor, which takes minutes"),
 )
+
+# The pages of the C library, which takes minutes to prove.
+LIBRARY_PAGES = ("contrib/bindings/README.md", "contrib/c/README.md", "contrib/python/README.md")
 
 # The first words by which a fence without a language is taken for commands.
 PROGRAMS = "./s10 .ci/run s10 rt rattle bash sh python3 cd cp mv rm ls cat sqlite3 git sudo nft awk grep".split()
@@ -117,9 +113,9 @@ class Block:
 
 
 def page_names():
-    """Returns the paths of the pages from the root."""
+    """Returns the paths of the pages from the root, without those of the C library."""
     paths = [*ROOT.glob("*.md"), *ROOT.glob("docs/*.md"), *ROOT.glob("contrib/**/*.md")]
-    return sorted(str(path.relative_to(ROOT)) for path in paths)
+    return sorted({str(path.relative_to(ROOT)) for path in paths} - set(LIBRARY_PAGES))
 
 
 def blocks_of(page):
@@ -196,6 +192,7 @@ class Room:
         (self.folder / "bin/s10").symlink_to(PROGRAM)
         self.env = {**os.environ, "PATH": f"{folder}/bin:{os.environ['PATH']}"}
         self.env.pop("S10", None)
+        self.env["S10_LIBRARY"] = ""  # s10client.py uses no C library.
 
     def run(self, text, stderr=subprocess.PIPE):
         """Runs a command. Returns its exit status and the lines of its output."""
