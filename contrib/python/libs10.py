@@ -1,7 +1,8 @@
 """The calls of the C library that `s10client` uses, by ctypes. contrib/c/s10.h says what each does.
 
-The environment variable S10_LIBRARY names the shared library. If it is empty, no library is used. If it is not
-set, the loader looks for `libs10.so.0`. If no library is used or found, the import fails with ImportError.
+The environment variable S10_LIBRARY names the shared library, which must be there. If it is empty, no library is
+used. If it is not set, the loader looks for `libs10.so.0`. If no library is used or found, the import fails with
+ImportError.
 
 A refusal by the library raises `Refused`, with its code and its word.
 """
@@ -13,12 +14,6 @@ from ctypes import POINTER, Structure, byref, c_char, c_char_p, c_size_t, c_uint
 PATH = os.environ.get("S10_LIBRARY", "libs10.so.0")
 if not PATH:
     raise ImportError("S10_LIBRARY is empty")
-try:
-    _library = ctypes.CDLL(PATH)
-except OSError as cause:
-    if "S10_LIBRARY" in os.environ:
-        raise                                   # a library that is named must be there
-    raise ImportError(str(cause)) from cause
 
 BUSY, NUMBERS_SPENT = 23, 24
 
@@ -70,19 +65,31 @@ class Word(Structure):
     _fields_ = [("text", c_char * 16)]
 
 
-# The library is built for these layouts, as s10.h says.
-if [ctypes.sizeof(it) for it in (Result, Id, Request, Frame, Outcome, Client, Word)] != [8, 28, 44, 40, 236, 64, 16]:
-    raise ImportError("the structs of this machine are not those of libs10")
+def _load():
+    # The library is built for these layouts, as s10.h says.
+    sizes = [ctypes.sizeof(it) for it in (Result, Id, Request, Frame, Outcome, Client, Word)]
+    if sizes != [8, 28, 44, 40, 236, 64, 16]:
+        raise OSError("the structs of this machine are not those of libs10")
+    library = ctypes.CDLL(PATH)
+    for name, returned, *takes in (
+        ("s10_read", Result, c_char_p, c_size_t, POINTER(Id)),
+        ("s10_make", Result, c_char_p, c_uint32, c_char_p, POINTER(Id)),
+        ("s10_decode", Result, c_char_p, c_size_t, POINTER(Request)),
+        ("s10_accept", Result, c_char_p, c_size_t, c_char_p, c_size_t, POINTER(Outcome)),
+        ("s10_submit", Result, POINTER(Client), POINTER(Request)),
+        ("s10_word", None, c_uint32, POINTER(Word)),
+    ):
+        function = getattr(library, name)
+        function.argtypes, function.restype = takes, returned
+    return library
 
-for _name, _takes in (
-    ("s10_read", [c_char_p, c_size_t, POINTER(Id)]),
-    ("s10_make", [c_char_p, c_uint32, c_char_p, POINTER(Id)]),
-    ("s10_decode", [c_char_p, c_size_t, POINTER(Request)]),
-    ("s10_accept", [c_char_p, c_size_t, c_char_p, c_size_t, POINTER(Outcome)]),
-    ("s10_submit", [POINTER(Client), POINTER(Request)]),
-):
-    getattr(_library, _name).argtypes, getattr(_library, _name).restype = _takes, Result
-_library.s10_word.argtypes, _library.s10_word.restype = [c_uint32, POINTER(Word)], None
+
+try:
+    _library = _load()
+except (OSError, AttributeError) as cause:
+    if "S10_LIBRARY" in os.environ:
+        raise OSError(f"S10_LIBRARY: {cause}") from cause
+    raise ImportError(str(cause)) from cause
 
 
 class Refused(ValueError):

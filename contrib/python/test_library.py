@@ -130,7 +130,8 @@ class Compared(unittest.TestCase):
             accepted.append(len(came_from) - came_from.count(None))
         # Any day or number of a range; the other identifiers that are right; the refusals of a Withdraw.
         numbers = 4 * 255
-        self.assertEqual(accepted[:1] + accepted[3:6], [numbers + OTHERS_OF_5, numbers + OTHERS_OF_5 + OTHERS, 4, numbers])
+        drawn, sheet = numbers + OTHERS_OF_5, numbers + OTHERS_OF_5 + OTHERS
+        self.assertEqual(accepted[:1] + accepted[3:6], [drawn, sheet, 4, numbers])
 
     def test_each_changed_byte_of_a_request(self):
         for request, reply, _ in vectors():
@@ -182,7 +183,8 @@ class Compared(unittest.TestCase):
             self.same("check_digit", choose.randrange(100_000_000))
 
     def test_each_changed_byte_of_an_identifier(self):
-        for text, others in ((b"RA000000005GB", OTHERS_OF_5), (b"RA473124829US", OTHERS), (b"EE999999995ZZ", OTHERS_OF_5)):
+        for text, others in ((b"RA000000005GB", OTHERS_OF_5), (b"RA473124829US", OTHERS),
+                             (b"EE999999995ZZ", OTHERS_OF_5)):
             self.assertTrue(self.same("is_identifier", text))
             self.assertEqual(sum(self.same("is_identifier", it) for it in changes(text)), others)
         for wrong in (b"", b"RA00000000", b"RA000000005GBX", b"ra000000005gb"):
