@@ -489,9 +489,34 @@ impl<S: Alter> SqlBook<S> {
 }
 
 impl<S: Alter> GroupCommit for SqlBook<S> {
+    ghost use Rattle.std.specs.Prelude.{◌++◌, ◌∷◌, ◌<◌, length, OnErr, OnOk};
+    ghost use Rattle.s10_book.specs.Rules.{MayFollow};
+    ghost use Rattle.s10_book.specs.Book.{Grows, FindsAfter, IsPerhapsWith};
+    ghost use Rattle.s10_ledger.specs.Ledger.{history_of, committed_of, IsOverCleanDisk, MayFind};
+
     /// Appends the call to the pending ones, in the process. If `MAX_PENDING` calls are pending,
-    /// commits these first.
-    fn append(&mut self, entry: Entry) -> Result<(), BookFault> {
+    /// commits these first. If fewer are pending, the database is unchanged.
+    fn append(&mut self, entry: Entry) -> Result<(), BookFault>
+        requires { IsHonest S.Store self.old → MayFollow (history_of S.Store self.old)
+            self.old.terms entry }
+        ensures faults { CountsResult result self.old.faults self.new.faults }
+        ensures was_honest { IsHonest S.Store self.new → IsHonest S.Store self.old }
+        ensures same_terms { IsHonest S.Store self.new → self.new.terms ≡ self.old.terms }
+        ensures ok { IsHonest S.Store self.new
+            → OnOk result (history_of S.Store self.new ≡ history_of S.Store self.old ++ entry
+            ∷ []) }
+        ensures err { IsHonest S.Store self.new
+            → OnErr result (history_of S.Store self.new ≡ history_of S.Store self.old) }
+        ensures stays_committed { IsHonest S.Store self.new
+            → Grows (committed_of S.Store self.old) (committed_of S.Store self.new) }
+        ensures opened { IsOverCleanDisk S.Store self.new → OnOk result (IsHonest S.Store
+            self.new) }
+        ensures stop { FindsAfter (IsHonest S.Store) (IsOverCleanDisk S.Store) (MayFind S.Store)
+            self.old self.new (IsPerhapsWith (history_of S.Store self.old) entry) }
+        ensures uncommitted { IsHonest S.Store self.new → length self.old.pending < MAX_PENDING
+            → OnOk result (((state S.Store self.new.conn).now ≡ (state S.Store self.old.conn).now)
+            × (self.new.pending ≡ self.old.pending ++ entry ∷ [])) }
+    {
         if let Err(fault) = self.make_room() {
             return Err(fault);
         }
@@ -510,7 +535,9 @@ impl<S: Alter> GroupCommit for SqlBook<S> {
 }
 
 impl<S: Alter> Book for SqlBook<S> {
-    ghost use Rattle.std.specs.Prelude.{⊤, refl};
+    ghost use Rattle.std.specs.Prelude.{⊤, refl, ◌++◌, ◌∷◌, OnErr, OnOk};
+    ghost use Rattle.s10_book.specs.Rules.{MayFollow};
+    ghost use Rattle.s10_book.specs.Book.{Grows, FindsAfter, IsPerhapsWith};
     ghost use Rattle.s10_ledger.specs.Ledger.{history_of, committed_of};
     ghost use Rattle.s10_ledger.specs.Ledger.{IsOverCleanDisk, MayFind};
     ghost use Rattle.s10_ledger.specs.Found.{finds_committed};
@@ -630,7 +657,28 @@ impl<S: Alter> Book for SqlBook<S> {
 
     /// Commits the call, in one transaction with all pending calls before it. On an error the
     /// history and the pending calls are unchanged, and an honest book has committed none of them.
-    fn keep(&mut self, entry: Entry) -> Result<(), BookFault> {
+    fn keep(&mut self, entry: Entry) -> Result<(), BookFault>
+        requires { IsHonest S.Store self.old → MayFollow (history_of S.Store self.old)
+            self.old.terms entry }
+        ensures faults { CountsResult result self.old.faults self.new.faults }
+        ensures was_honest { IsHonest S.Store self.new → IsHonest S.Store self.old }
+        ensures same_terms { IsHonest S.Store self.new → self.new.terms ≡ self.old.terms }
+        ensures ok { IsHonest S.Store self.new
+            → OnOk result (history_of S.Store self.new ≡ history_of S.Store self.old ++ entry
+            ∷ []) }
+        ensures err { IsHonest S.Store self.new
+            → OnErr result (history_of S.Store self.new ≡ history_of S.Store self.old) }
+        ensures stays_committed { IsHonest S.Store self.new
+            → Grows (committed_of S.Store self.old) (committed_of S.Store self.new) }
+        ensures committed { IsHonest S.Store self.new
+            → OnOk result (committed_of S.Store self.new ≡ history_of S.Store self.new) }
+        ensures opened { IsOverCleanDisk S.Store self.new → OnOk result (IsHonest S.Store
+            self.new) }
+        ensures stop { FindsAfter (IsHonest S.Store) (IsOverCleanDisk S.Store) (MayFind S.Store)
+            self.old self.new (IsPerhapsWith (history_of S.Store self.old) entry) }
+        ensures left { IsHonest S.Store self.new
+            → OnErr result (committed_of S.Store self.new ≡ committed_of S.Store self.old) }
+    {
         if let Err(fault) = self.ask_again() {
             return Err(fault);
         }

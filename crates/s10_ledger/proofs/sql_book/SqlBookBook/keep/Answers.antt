@@ -1,9 +1,25 @@
-use Rattle.std.proofs.Common.{◌≡◌, ◌∙◌, ◌∷◌, ◌++◌, [], ap, inl, inr}
+use Rattle.std.proofs.Common.{◌≡◌, ◌∙◌, ◌∷◌, ◌++◌, [], ap, inl, inr, Result, Ok, Err, OnErr}
 use Rattle.s10_book.specs.Book.{IsPerhapsWith}
 use Rattle.s10_book.proofs.Calls.{FindsAfter-refl, finds_after_unchanged, finds_one_more}
-use Rattle.s10_ledger.specs.Ledger.{history_of}
+use Rattle.s10_ledger.specs.Ledger.{history_in, history_of, committed_of}
 use Rattle.s10_ledger.proofs.BookLemmas.{follows_still}
 use Rattle.s10_ledger.proofs.sql_book.SqlBookBook.keep.Goals as goal
+
+-- An error leaves what it left before the call, if what is before both is the same.
+still_left : {X T E : Type 0} (r : Result T E) (new mid old : X) → OnErr r (new ≡ mid) → mid ≡ old
+    → OnErr r (new ≡ old)
+still_left (Ok x) new mid old left same = tt
+still_left (Err x) new mid old left same = left ∙ same
+
+pub returns-in-Err-clause-left : goal.returns-in-Err-clause-left
+returns-in-Err-clause-left g c = λ h. ap history_in (c.in-Err.ensures.same h)
+
+pub returns-clause-left : goal.returns-clause-left
+returns-clause-left g c = λ h. still_left c.keep_with_pending.result
+    (committed_of g.S.Store c.keep_with_pending.new.self)
+    (committed_of g.S.Store c.ask_again.new.self) (committed_of g.S.Store c.args.self.now)
+    (c.keep_with_pending.ensures.left h)
+    (ap history_in (c.in_default.ensures.same (c.keep_with_pending.ensures.was_honest h)))
 
 pub keep_with_pending-requires : goal.keep_with_pending-requires
 keep_with_pending-requires g c = follows_still g.S.Store c.args.self.now
@@ -26,8 +42,7 @@ returns-clause-stop g c =
     let old = history_of g.S.Store c.args.self.now in
     let mid = history_of g.S.Store c.ask_again.new.self in
     finds_after_unchanged (λ calls. calls ≡ mid ++ c.args.entry ∷ []) (IsPerhapsWith old
-        c.args.entry)
-    c.in_default.ensures.unchanged
+    c.args.entry) c.in_default.ensures.unchanged
     (c.keep_with_pending.ensures.stop (λ clean. (c.in_default.ensures.opened clean).is_open))
     (λ h calls same. inl same)
     (λ h calls grown. inr (grown

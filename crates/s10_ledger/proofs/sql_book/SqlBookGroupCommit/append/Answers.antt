@@ -39,6 +39,19 @@ module _ {S : Type 0} (g : Ghosts S) (old mid new : Ledger S) (e : Entry)
   not_held (Err x) left kept = ap (λ (c : Held S). history_in (state g c).now ++ new.pending) same
       ∙ ap (λ (p : List Entry). history_in (state g mid.conn).now ++ p) left ∙ kept
 
+  held_alone : {T E : Type 0} (r : Result T E) → OnOk r (new.pending ≡ mid.pending ++ e ∷ [])
+      → ((state g mid.conn).now ≡ (state g old.conn).now) × (mid.pending ≡ old.pending)
+      → OnOk r (((state g new.conn).now ≡ (state g old.conn).now)
+      × (new.pending ≡ old.pending ++ e ∷ []))
+  held_alone (Ok x) held uncommitted = (
+    ap (λ (c : Held S). (state g c).now) same ∙ uncommitted.0,
+    held ∙ ap (λ (p : List Entry). p ++ e ∷ []) uncommitted.1,
+  )
+  held_alone (Err x) held uncommitted = tt
+
+pub returns-in-Err-clause-uncommitted : goal.returns-in-Err-clause-uncommitted
+returns-in-Err-clause-uncommitted g c = λ honest few. tt
+
 pub returns-in-Err-clause-faults : goal.returns-in-Err-clause-faults
 returns-in-Err-clause-faults g c = c.in-Err.ensures.faults
 
@@ -106,3 +119,9 @@ returns-clause-err g c = λ honest.
     not_held g.S.Store c.args.self.now c.make_room.new.self c.append_call.new.self c.args.entry
     c.append_call.ensures.same_conn c.append_call.result c.append_call.ensures.err
     (c.in_default.ensures.unchanged.same_history (c.append_call.ensures.was_honest honest))
+
+pub returns-clause-uncommitted : goal.returns-clause-uncommitted
+returns-clause-uncommitted g c = λ honest few.
+    held_alone g.S.Store c.args.self.now c.make_room.new.self c.append_call.new.self c.args.entry
+    c.append_call.ensures.same_conn c.append_call.result c.append_call.ensures.ok
+    (c.in_default.ensures.uncommitted (c.append_call.ensures.was_honest honest) few)
