@@ -1,0 +1,27 @@
+#!/usr/bin/env bash
+# Builds the page for the counter again from the sources of the C library and compares it with contrib/page/s10.html, then
+# tries that file in headless Chromium (checks/counter_page.py). MODULE is a WebAssembly module that is built already; without
+# it `rt` proves and builds one, which takes minutes. Says `skipped: TOOL` if the machine lacks a tool. The last line is
+# `counter page ok`, or the status is not 0.
+#
+#     checks/counter_page.sh [MODULE]
+set -euo pipefail
+top=$(dirname "$(dirname "$(readlink -f "${BASH_SOURCE[0]}")")")
+
+# have TOOL: whether the machine has it; says so if not.
+have() {
+    command -v "$1" >/dev/null || { echo "skipped: $1"; return 1; }
+}
+
+have python3 || exit 0
+if [ $# -gt 0 ]; then
+    python3 "$top/contrib/page/make_page.py" --check --module "$1"
+    echo "s10.html has this module"
+elif have rt; then
+    python3 "$top/contrib/page/make_page.py" --check
+    echo "s10.html is what is built"
+fi
+if have "${BROWSER:-chromium}"; then
+    python3 "$top/checks/counter_page.py"
+fi
+echo "counter page ok"
