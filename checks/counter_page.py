@@ -567,6 +567,19 @@ def texts_have_contrast_in_light_and_dark(browser, path):
                 same(f"{scheme} texts that are hard to read", [], [(text, ratio) for text, ratio in came["found"] if ratio < 4.5])
 
 
+def a_narrow_window_needs_no_scrolling_sideways(browser, path):
+    """320 pixels, as WCAG 2 asks for. Long words too."""
+    for language in LANGUAGES:
+        with browser.open(path, language) as tab:
+            tab.ready()
+            tab.call("Emulation.setDeviceMetricsOverride", width=320, height=900, deviceScaleFactor=1, mobile=False)
+            tab.paste("labels", "RA473124829US\nRA473124828US\n" + "W" * 100)
+            tab.paste("hex", "\n".join(case[1] for case in TEXTS if case[0] == "hex"))
+            tab.until("rows", "document.querySelectorAll('#hex-table tbody tr').length > 20", True)
+            widths = tab.js("(at => [innerWidth, at.clientWidth, at.scrollWidth])(document.documentElement)")
+            holds(f"{language} {widths}", widths[0] == 320 and widths[2] <= widths[1])
+
+
 def visible(tab, name):
     return tab.js(f"document.getElementById('{name}').checkVisibility()")
 
@@ -646,6 +659,7 @@ TESTS = [
     datagrams_are_put_into_words_in_each_language, the_longest_datagrams_are_read, many_lines_agree_with_another_program,
     a_long_list_is_counted_whole_and_filtered, spaces_and_invisible_characters_do_not_matter, the_keyboard_alone_is_enough,
     each_focus_is_visible, a_screen_reader_has_names_in_each_language, texts_have_contrast_in_light_and_dark,
+    a_narrow_window_needs_no_scrolling_sideways,
     a_browser_without_the_feature_shows_it_in_the_language, a_browser_without_script_shows_it_in_each_language,
     a_browser_with_the_feature_shows_no_notice, the_language_is_that_of_the_browser, nothing_is_loaded_and_nothing_can_be_sent,
 ]  # fmt: skip
@@ -685,6 +699,7 @@ WRONG = [
     ("--quiet: #b0b1b8", "--quiet: #55565c", texts_have_contrast_in_light_and_dark),
     ("--good: #14612b", "--good: #7fd69a", texts_have_contrast_in_light_and_dark),
     ("(prefers-color-scheme: dark)", "(prefers-color-scheme: light)", texts_have_contrast_in_light_and_dark),
+    ("td.id { white-space: normal }", "", a_narrow_window_needs_no_scrolling_sideways),
     ('<div id="notice" role="alert">', '<div id="notice" role="alert" hidden>', a_browser_without_the_feature_shows_it_in_the_language),
     (".hidden = other !== language", ".hidden = other === language", a_browser_without_the_feature_shows_it_in_the_language),
     ('<p lang="fr" id="notice-fr">', '<p lang="fr" id="notice-fr" hidden>', a_browser_without_script_shows_it_in_each_language),
