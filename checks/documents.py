@@ -45,6 +45,8 @@ NOT_RUN = (
     ("python3 test_completions.py", "zsh and fish"),
     ("tshark", "tshark"),
     ("python3 test_dissector.py", "tshark"),
+    ("python3 page/make_page.py", "writes into the repository, and takes minutes to prove"),
+    ("bash ../checks/counter_page.sh", "takes minutes to prove, and Chromium"),
     ("bash make_deb.sh", "dpkg-dev"),
     ("# lintian", "root and lintian"),
     ("# dpkg", "root"),
