@@ -2,7 +2,7 @@
 # Builds the page for the counter again from the sources of the C library and compares it with contrib/page/s10.html, then
 # tries that file in headless Chromium (checks/counter_page.py). MODULE is a WebAssembly module that is built already; without
 # it `rt` proves and builds one, which takes minutes. Says `skipped: TOOL` if the machine lacks a tool. The last line is
-# `counter page ok`, or the status is not 0.
+# `counter page ok`, or the status is not 0. The tests in Chromium take three to four minutes.
 #
 #     checks/counter_page.sh [MODULE]
 set -euo pipefail
