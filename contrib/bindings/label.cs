@@ -25,7 +25,7 @@ static class Label {
             Result result = s10_read_label(text, (UIntPtr)(text.Length - 1), out id);
             s10_word(result.code, refusal);
             if (result.code == 0)
-                Console.WriteLine("{0} serial {1:D8}", id.text, id.serial);
+                Console.WriteLine("{0} serial {1:00000000}", id.text, id.serial);
             else
                 Console.WriteLine("refused {0} {1}", Encoding.ASCII.GetString(refusal).TrimEnd('\0'), result.at);
         }
