@@ -382,7 +382,7 @@ module _ {B : Type 0} (faults : B → Faults) (honest : B → Type 0) (terms : B
         IsOnce-append (history old.1) (history between.1) it.1.1 (not_faulted ds ans) it.1.0
             (terms old.1).interval all.served.once_each
             (subst (λ (t : Terms). IsOnce (history between.1) it.1.0 t.interval it.1.1)
-                all.same_terms
+            all.same_terms
             it.1.3),
         it.1.4,
       ))

@@ -134,7 +134,7 @@ fn run_on_book<B: GroupCommit, W: Write>(
         → (result.1 ≡ None → IsUnbound book result.2 (W.contents out.old) (W.contents out.new)
         result.0)
         × IfSome result.1 (λ link. ServesTurns B.faults B.honest B.terms B.history B.committed
-            B.clean B.may_find day
+        B.clean B.may_find day
         (new_trace, book) (link.trace, result.2) (W.contents out.old) (W.contents out.new) count
         result.0) }
     ensures reported { (report : Report) → work ≡ BookJob.Report report → (result.1 ≡ None)

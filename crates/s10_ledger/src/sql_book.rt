@@ -679,8 +679,8 @@ impl<S: Alter> Book for SqlBook<S> {
         ensures left { IsHonest S.Store self.new
             → OnErr result (committed_of S.Store self.new ≡ committed_of S.Store self.old) }
     {
-        if let Err(fault) = self.ask_again() {
-            return Err(fault);
+        if let Err(refusal) = self.ask_again() {
+            return Err(refusal);
         }
         self.keep_with_pending(entry)
     }

@@ -6,7 +6,7 @@ returns g c was made opened =
     let did = c.run_on_book-done.ensures in
     worked_with g.A.Store c.args.work was _ _ _ _ c.args.book c.run_on_book-done.result.2
     c.close-connection.result.connection c.close-connection.result.committed made opened did.made
-        did.served did.reported
+    did.served did.reported
     (record {
       committed = c.close-connection.ensures.committed;
       ledger = c.close-connection.ensures.ledger;
