@@ -679,9 +679,9 @@ impl<S: Alter> Book for SqlBook<S> {
         ensures left { IsHonest S.Store self.new
             → OnErr result (committed_of S.Store self.new ≡ committed_of S.Store self.old) }
     {
-        if let Err(refusal) = self.ask_again() {
-            return Err(refusal);
+        match self.ask_again() {
+            Ok(()) => self.keep_with_pending(entry),
+            Err(fault) => Err(fault),
         }
-        self.keep_with_pending(entry)
     }
 }

@@ -14,16 +14,16 @@ still_left (Err x) new mid old left same = left ∙ same
 pub returns-in-Err-clause-left : goal.returns-in-Err-clause-left
 returns-in-Err-clause-left g c = λ h. ap history_in (c.in-Err.ensures.same h)
 
-pub returns-clause-left : goal.returns-clause-left
-returns-clause-left g c = λ h. still_left c.keep_with_pending.result
+pub returns-in-Ok-clause-left : goal.returns-in-Ok-clause-left
+returns-in-Ok-clause-left g c = λ h. still_left c.keep_with_pending.result
     (committed_of g.S.Store c.keep_with_pending.new.self)
     (committed_of g.S.Store c.ask_again.new.self) (committed_of g.S.Store c.args.self.now)
     (c.keep_with_pending.ensures.left h)
-    (ap history_in (c.in_default.ensures.same (c.keep_with_pending.ensures.was_honest h)))
+    (ap history_in (c.in-Ok.ensures.same (c.keep_with_pending.ensures.was_honest h)))
 
 pub keep_with_pending-requires : goal.keep_with_pending-requires
 keep_with_pending-requires g c = follows_still g.S.Store c.args.self.now
-    c.ask_again.new.self c.args.entry c.in_default.ensures.unchanged c.requires
+    c.ask_again.new.self c.args.entry c.in-Ok.ensures.unchanged c.requires
 
 pub returns-in-Err-clause-stop : goal.returns-in-Err-clause-stop
 returns-in-Err-clause-stop g c =
@@ -31,19 +31,19 @@ returns-in-Err-clause-stop g c =
     finds_one_more c.args.entry c.in-Err.ensures.unchanged
     (FindsAfter-refl mid (IsPerhapsWith (history_of g.S.Store mid) c.args.entry))
 
-pub returns-clause-faults : goal.returns-clause-faults
-returns-clause-faults g c = rw c.in_default.ensures.faults at c.keep_with_pending.ensures.faults
+pub returns-in-Ok-clause-faults : goal.returns-in-Ok-clause-faults
+returns-in-Ok-clause-faults g c = rw c.in-Ok.ensures.faults at c.keep_with_pending.ensures.faults
 
-pub returns-clause-opened : goal.returns-clause-opened
-returns-clause-opened g c = c.keep_with_pending.ensures.opened
+pub returns-in-Ok-clause-opened : goal.returns-in-Ok-clause-opened
+returns-in-Ok-clause-opened g c = c.keep_with_pending.ensures.opened
 
-pub returns-clause-stop : goal.returns-clause-stop
-returns-clause-stop g c =
+pub returns-in-Ok-clause-stop : goal.returns-in-Ok-clause-stop
+returns-in-Ok-clause-stop g c =
     let old = history_of g.S.Store c.args.self.now in
     let mid = history_of g.S.Store c.ask_again.new.self in
     finds_after_unchanged (λ calls. calls ≡ mid ++ c.args.entry ∷ []) (IsPerhapsWith old
-    c.args.entry) c.in_default.ensures.unchanged
-    (c.keep_with_pending.ensures.stop (λ clean. (c.in_default.ensures.opened clean).is_open))
+    c.args.entry) c.in-Ok.ensures.unchanged
+    (c.keep_with_pending.ensures.stop (λ clean. (c.in-Ok.ensures.opened clean).is_open))
     (λ h calls same. inl same)
     (λ h calls grown. inr (grown
-    ∙ ap (λ l. l ++ c.args.entry ∷ []) (c.in_default.ensures.unchanged.same_history h)))
+    ∙ ap (λ l. l ++ c.args.entry ∷ []) (c.in-Ok.ensures.unchanged.same_history h)))
