@@ -12,10 +12,10 @@
             print(drawn.identifier)
 
 A request is written down with its number before it is sent, so that it is never sent again with
-another number. If no reply arrives, `GaveUp` is raised and the request stays open: `again` sends
-it again, and the server executes it at most once. Until it is answered, no other request is accepted.
-A client opened from notes begins with its last request open, since the notes do not record whether
-it was answered. A repeat costs the server no write and changes nothing.
+another number. If no reply arrives, `GaveUp` is raised and the request stays pending: `again` sends
+it again, and the server executes it at most once. Until a reply comes, no other request is accepted.
+A client opened from notes begins with its last request pending, since the notes do not record whether
+its reply came. A repeat of a kept call costs the server no write and changes nothing.
 
 Each refusal by the server is a subclass of `Refused`. A text or a number that fits no datagram
 raises `ValueError`, and uses no number. A client is for one thread at a time.
