@@ -101,8 +101,9 @@ ReceivesAtMost most old new turns = new.calls + old.sends
 module _ {B : Type 0} (faults : B → Faults) (honest : B → Type 0) (terms : B → Terms)
     (history committed : B → List Entry) (clean : B → Type 0)
     (may_find : B → Option (List Entry) → Type 0) where
-  -- If some reply is to a call that was not committed, all calls were committed. Otherwise the book
-  -- is unchanged, and each reply is to a committed call.
+  -- Either the commit of all calls was tried: then, if the book was honest, some reply is to a call
+  -- that was not committed. Or the book is unchanged: then, if it is honest, each reply is to a
+  -- committed call.
   abbrev pub CommitsIfPending : B → B → List Exchange → Result (Unit {0}) BookFault → Type 0
   CommitsIfPending old new taken commit_result =
       ((has_reply taken ≡ true) × (honest old → ¬ (AllCommitted (committed old) (history old)
@@ -111,7 +112,7 @@ module _ {B : Type 0} (faults : B → Faults) (honest : B → Type 0) (terms : B
       ⊎ ((new ≡ old) × (commit_result ≡ Ok tt)
       × (honest old → AllCommitted (committed old) (history old) taken))
 
-  -- The calls were committed if a reply needed it, and only then were the replies sent.
+  -- A commit was tried if a reply needed it. Then the replies were sent or withheld.
   pub record CommitsAndReplies (old new : Trace × B) (taken : List Exchange)
       (answered : List Turn) : Type 0 where
     pub commit_result : Result (Unit {0}) BookFault

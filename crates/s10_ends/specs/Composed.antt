@@ -68,9 +68,10 @@ module _ {B : Type 0} (faults : B → Faults) (honest : B → Type 0) (terms : B
     pub stands : All (IsSentCommitted (committed new)) turns
     pub owed : All (IsOwedReply (committed new) deliveries) turns
 
-  -- Wherever the book was honest after some of the batches, an opening finds after a stop every
-  -- call whose reply they sent. It finds a beginning of what each distinct request of some of the
-  -- deliveries once, in order of first arrival, makes of the first history.
+  -- Wherever the book was honest after some of the batches, if it is clean after all of them, an
+  -- opening finds after a stop every call whose reply the first ones sent. It finds a beginning of
+  -- what each distinct request of some of the deliveries once, in order of first arrival, makes of
+  -- the first history.
   abbrev pub SurvivesStop : Option ℕ → Trace × B → Trace × B → Type 0
   SurvivesStop given old new = (first rest : List (List Turn)) (between : Trace × B)
       (before : BatchesLead (IsBatch given) old first between)

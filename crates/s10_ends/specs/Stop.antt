@@ -19,8 +19,8 @@ IsFoundAmong committed h interval deliveries found = (some : List Dated) × (who
     × FindsCalls (IsBetween committed whole) found
 
 -- After these deliveries and a stop, an opening may find what it could find before them or, if the
--- book was honest, its committed calls and more that the deliveries ask for. The store is still
--- clean only if it was clean before.
+-- book was honest, its committed calls and perhaps more: pending ones, and those of the deliveries.
+-- The store is still clean only if it was clean before.
 pub record StopsAfter {B : Type 0} (terms : B → Terms) (history committed : B → List Entry)
     (honest clean : B → Type 0) (may_find : B → Option (List Entry) → Type 0) (before after : B)
     (deliveries : List Dated) : Type 0 where

@@ -27,10 +27,11 @@ pub fn batches_compose<B: Book>()
         (turns_in batches) }
 {}
 
-/// States what an opening finds if the server is stopped, at any moment, between batches or in one.
+/// States what an opening finds if the server is stopped after batches or during one.
 ///
-/// It finds every call whose reply was sent. What it finds is a beginning of what some of the
-/// requests that arrived give. The store must still be clean.
+/// If the book was honest after some of the batches, it finds every call whose reply these sent.
+/// What it finds is a beginning of what some of the requests that arrived give. The store must be
+/// clean at the end.
 pub fn batches_survive_stops<B: Book>()
     ensures { (given : Option ℕ) (old new : Trace × B) → SurvivesStop B.faults B.honest B.terms
         B.history B.committed B.clean B.may_find given old new }

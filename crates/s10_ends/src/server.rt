@@ -165,7 +165,8 @@ impl<B: Book> Server<B> {
             ≡ B.history (book_of self.old) → B.committed (book_of self.new)
             ≡ B.history (book_of self.new) }
 
-        // After a stop an opening finds the committed calls, and perhaps the one of this delivery.
+        // After a stop an opening finds what it could find before, or the committed calls and
+        // perhaps more: pending ones, and the one of this delivery.
         ensures stop { StopsAfter B.terms B.history B.committed B.honest B.clean B.may_find
             (book_of self.old) (book_of self.new) ((bytes.now, day) ∷ []) }
     {
@@ -223,7 +224,8 @@ impl<B: Book> Server<B> {
             ≡ B.history (book_of self.old) → B.committed (book_of self.new)
             ≡ B.history (book_of self.new) }
 
-        // After a stop an opening finds the committed calls, and perhaps more of the deliveries.
+        // After a stop an opening finds what it could find before, or the committed calls and
+        // perhaps more: pending ones, and those of deliveries.
         ensures stop { StopsAfter B.terms B.history B.committed B.honest B.clean B.may_find
             (book_of self.old) (book_of self.new) (map dated deliveries.now) }
 

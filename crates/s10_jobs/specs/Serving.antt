@@ -46,8 +46,8 @@ module _ {B : Type 0} (faults : B → Faults) (honest : B → Type 0) (terms : B
     (history committed : B → List Entry) (clean : B → Type 0)
     (may_find : B → Option (List Entry) → Type 0) where
   -- At most `count` turns of a server, in batches on the given day. If the book is honest after
-  -- them, they give what one run over all their datagrams gives. After a stop at any moment an
-  -- opening finds every call whose reply was sent.
+  -- them, they give what one run over all their datagrams gives. If it is clean after them and was
+  -- honest after some of them, an opening after a stop finds each call whose reply these sent.
   pub record ServesTurns (given : Option ℕ) (old new : Trace × B) (held now : Option (List ℕ))
       (count : ℕ) (result : Result JobStatus WriteFault) : Type 0 where
     pub serves : Serves (IsBatch faults honest terms history committed clean may_find given) old new

@@ -25,9 +25,10 @@ const MAX_BATCH: u32 = 64;
 
 /// Serves `count` turns in batches of up to 64 datagrams, and prints one line for each turn.
 ///
-/// The calls of a batch are committed together, then its replies are sent, then its lines are
-/// written and flushed. If a batch cannot be allocated, the server handles one datagram without
-/// allocating. Standard error has a line for each dropped datagram, with its sender.
+/// The calls of a batch are committed together if a reply is to a pending call. Then its replies are
+/// sent, and its lines are written and flushed. If a batch cannot be allocated, the server handles
+/// one datagram without allocating. Standard error has a line for each dropped datagram, with its
+/// sender.
 ///
 /// From the first batch to the last, each distinct request that arrived is applied once, in order
 /// of first arrival, and the call of each reply that was sent is committed.

@@ -18,7 +18,7 @@ use Rattle.s10_statements.specs.ConnectionState.{IsQuiescent, StaysUnclean}
 use Rattle.s10_statements.specs.Statements.{LeavesTables}
 use Rattle.s10_book.specs.Book.{FindsAfter}
 use Rattle.s10_book.proofs.Calls.{grows_same}
-use Rattle.s10_ledger.specs.Ledger.{Ledger, IsLedger, IsHonest, HoldsCalls, IsFoundIn}
+use Rattle.s10_ledger.specs.Ledger.{Ledger, IsLedger, IsHonest, HoldsCalls, IsFoundInTrees}
 use Rattle.s10_ledger.specs.Ledger.{LeavesUnchanged, MayFindAlso, LeavesCommitted, history_in}
 use Rattle.s10_ledger.specs.Ledger.{history_of, committed_of, IsOverCleanDisk, MayFind}
 use Rattle.s10_ledger.specs.Found.{one_found}
@@ -61,7 +61,7 @@ pub may_find_also : {S : Type 0} (g : Ghosts S) (old new : Ledger S) (calls : Li
 may_find_also g old new calls clean same crash = record {
   was_clean = λ is. omega (arith, clean, is);
   finds = λ is found may.
-      let there = subst (λ (t : Terms). IsFoundIn may.0 t found) same may.2 in
+      let there = subst (λ (t : Terms). IsFoundInTrees may.0 t found) same may.2 in
       either (crash is may.0 may.1) (λ left. (may.0, left, there)) (λ both. (
         both.0,
         (calls, one_found may.0 old.terms calls found both.1 there, refl),
@@ -81,7 +81,7 @@ finds_the_same {S} g old mid new IsSuch conn terms stop =
       finds = λ is found may. stop.finds (was_clean is) found (
         may.0,
         subst (λ (h : Held S). (state g h).may_leave may.0) conn may.1,
-        subst (λ (t : Terms). IsFoundIn may.0 t found) terms may.2,
+        subst (λ (t : Terms). IsFoundInTrees may.0 t found) terms may.2,
       );
     }
 

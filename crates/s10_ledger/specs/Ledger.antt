@@ -167,13 +167,13 @@ pub record HoldsCalls (db : Trees) (t : Terms) (calls : List Entry) : Type 0 whe
 
 -- What an opening finds in these trees: the calls of a ledger with these settings, or no such
 -- ledger.
-abbrev pub IsFoundIn : Trees → Terms → Option (List Entry) → Type 0
-IsFoundIn db t (Some calls) = HoldsCalls db t calls
-IsFoundIn db t None = (calls : List Entry) → ¬ HoldsCalls db t calls
+abbrev pub IsFoundInTrees : Trees → Terms → Option (List Entry) → Type 0
+IsFoundInTrees db t (Some calls) = HoldsCalls db t calls
+IsFoundInTrees db t None = (calls : List Entry) → ¬ HoldsCalls db t calls
 
 -- What an opening may find if the process stops now.
 abbrev pub MayFind : {S : Type 0} → Ghosts S → Ledger S → Option (List Entry) → Type 0
-MayFind g l found = (db : Trees) × (state g l.conn).may_leave db × IsFoundIn db l.terms found
+MayFind g l found = (db : Trees) × (state g l.conn).may_leave db × IsFoundInTrees db l.terms found
 
 -- A call leaves the ledger unchanged.
 abbrev pub LeavesUnchanged : {S : Type 0} → Ghosts S → Ledger S → Ledger S → Type 0

@@ -313,8 +313,8 @@ impl<S: Alter> SqlBook<S> {
     ghost use Rattle.s10_ledger.specs.Ledger.{history_of, committed_of, IsOverCleanDisk};
     ghost use Rattle.s10_ledger.specs.Ledger.{LeavesUnchanged, IsOpenIfClean, MayFindAlso};
 
-    // Asks the connection if it did not answer the last statement, so that no statement runs over a
-    // closed connection, and nothing is returned.
+    // Asks the connection if it did not answer the last statement, so that no statement runs and no
+    // look-up answers over a closed connection.
     fn ask_again(&mut self) -> Result<(), BookFault>
         ensures faults { CountsResult result self.old.faults self.new.faults }
         ensures unchanged { LeavesUnchanged S.Store self.old self.new }
