@@ -389,15 +389,26 @@ OPERATING = {
 
 
 def find_ranges_granted_twice(room, command):
-    """Runs the script over two ledgers that have no serial in common, and over two that have one."""
-    ranges = (("ledger.a", 0, 9), ("ledger.b", 10, 19), ("ledger.c", 19, 29))
+    """Runs the script over two ledgers that have no serial in common, over two that have one, and beside what is no ledger."""
+
+    def compare_with(*expected):
+        compare(command.where(), list(expected), room.run(command.text, stderr=subprocess.STDOUT)[1])
+
+    ranges = (("ledger.a", 0, 9), ("ledger.b", 10, 19), ("ledger.c d", 19, 29))
+    twice = "granted twice: RA GB 00000019 00000029 ledger.c d"
     for at, (ledger, first, last) in enumerate(ranges):
-        room.must(CREATE.format(ledger), "created")
-        room.serve(SERVE.format(ledger))
+        room.must(CREATE.format(f"'{ledger}'"), "created")
+        room.serve(SERVE.format(f"'{ledger}'"))
         room.must(GRANT.format(1, first, last), "done")
+        if at == 2:
+            room.stop()
+            compare_with(twice)
+            room.serve(SERVE.format(f"'{ledger}'"))
+            room.must(f"s10 withdraw {TO} --number 2 --range 1", "done")
         room.stop()
-        expected = ["granted twice: RA GB 00000019 00000029 ledger.c"] if at == 2 else []
-        compare(command.where(), expected, room.run(command.text)[1])
+        compare_with(*[twice] * (at == 2))
+    (room.folder / "ledger.e").write_text("no ledger", encoding="utf-8")
+    compare_with("cannot open ledger.e: it is not a database", "not read: ledger.e: ledger store", twice)
 
 
 SCALING = {"for ledger in": find_ranges_granted_twice}
