@@ -450,9 +450,11 @@ def count_turns(room, command):
 
 
 def check_texts(room, command):
-    """Compares the texts of the repository with the help texts, in place of those that the command before has written."""
+    """Compares the texts of the repository with the help texts, in place of those that the command before has written. The
+    file of the program may have any name."""
     shutil.copytree(ROOT / "contrib", room.folder, dirs_exist_ok=True)
     run_and_compare(room, command)
+    room.must("ln -s s10 bin/another.name && python3 write_texts.py --check bin/another.name")
 
 
 CONTRIB = {

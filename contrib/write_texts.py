@@ -38,8 +38,8 @@ class Help(NamedTuple):
 
 
 def ask(program, *words):
-    """Returns what the program prints."""
-    return subprocess.run([program, *words], capture_output=True, text=True, check=True).stdout
+    """Returns what the program prints. It is started under the name s10, which its usage lines show, whatever its file is called."""
+    return subprocess.run(["s10", *words], executable=program, capture_output=True, text=True, check=True).stdout
 
 
 def read_help(text):
