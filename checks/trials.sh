@@ -180,6 +180,13 @@ for file in journal twice again; do
     refused "$file" 'ledger store' "cannot open $file: unable to open database file" ''
     create 3 'ledger store' "cannot open $file: unable to open database file" '' "$file"
 done
+cp ledger spent
+for size in 0 600; do
+    head -c "$size" /dev/zero >spent-journal
+    tries 0 'ledger ok 0' '' "$([ "$size" = 0 ] && echo '+' || echo '~')spent-wal 41" audit --ledger spent
+    tries 0 'range customer service country first last used voided free' '' '~spent-wal 41' report --ledger spent --day 20000
+    create 3 'ledger not-empty' '' '~spent-wal 41' spent
+done
 sqlite3 ledger "$note; INSERT INTO note VALUES (1, CAST(zeroblob(12000000) AS TEXT))"
 tries 0 'ledger ok 0' 'opening ledger: 12 MB' '+ledger-wal 41' audit --ledger ledger
 
@@ -266,14 +273,15 @@ tries 3 'link bind' 'opening other|cannot bind 192.0.2.1:4000: Cannot assign req
     serve --ledger other --bind 192.0.2.1:4000 --count 1
 tries 1 'refused peer' '' '' serve --ledger missing --bind localhost:4000 --count 1
 stop
-(
-    echo 'BEGIN EXCLUSIVE;'
-    sleep 4
-) | sqlite3 other &
+mkfifo ../statements
+sqlite3 other <../statements &
 server=$!
+exec 3>../statements
+echo 'BEGIN EXCLUSIVE;' >&3
 sleep 1
 refused other 'ledger store' 'cannot open other: database is locked' ''
 create 3 'ledger store' 'cannot open other: database is locked' '' other
+exec 3>&-
 stop
 
 # The commands that ask a server, while no server is at the address.
