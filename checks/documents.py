@@ -31,7 +31,7 @@ NOT_RUN = (
     ("./s10 ", "builds the program, which takes minutes"),
     (".ci/run", "proves and tests everything, which takes an hour"),
     ("python3 contrib/write_texts.py", "writes into the repository"),
-    ("# install -d", "root and systemd"),
+    ("# install", "root and systemd"),
     ("# s10 create", "root and systemd"),
     ("# systemctl", "root and systemd"),
     ("# ps ", "root and systemd"),
