@@ -9,7 +9,8 @@
 # builds libs10-0, the shared library, and libs10-dev, with the header, both libraries, the pkg-config file and the client.
 #
 # Prints the names of the packages, which are put into FOLDER (by default the current one). MAINTAINER is the packager, as
-# 'Name <address>'; by default git's user.name and user.email.
+# 'Name <address>'; by default git's user.name and user.email or, if git does not know these, the author of the last commit.
+# A page that names a page which the package lacks is a failure.
 set -euo pipefail
 
 if [ $# -lt 1 ] || [ $# -gt 2 ]; then
@@ -23,7 +24,13 @@ root=$(dirname "$contrib")
 
 arch=$(dpkg --print-architecture)
 libraries=lib/$(dpkg-architecture -qDEB_HOST_MULTIARCH)
-maintainer=${MAINTAINER:-"$(git -C "$root" config user.name) <$(git -C "$root" config user.email)>"}
+if [ -n "${MAINTAINER:-}" ]; then
+    maintainer=$MAINTAINER
+elif who=$(git -C "$root" config user.name) && address=$(git -C "$root" config user.email); then
+    maintainer="$who <$address>"
+else
+    maintainer=$(git -C "$root" log -1 --format='%an <%ae>')
+fi
 export SOURCE_DATE_EPOCH=${SOURCE_DATE_EPOCH:-$(git -C "$root" log -1 --format=%ct)}
 date=$(date -Ru -d "@$SOURCE_DATE_EPOCH")
 
@@ -61,6 +68,31 @@ License: Apache-2.0
 END
 }
 
+# Prints the pages of the repository, each with its path from the top, and what they link to.
+pages() {
+    (cd "$root" && printf '%s\n' *.md docs/*.md contrib/README.md contrib/*/README.md contrib/page/s10.html contrib/page/s10.png)
+}
+
+# check_links: fails if a page of the package names a page, or links to a file, that is not in the list on standard input. The
+# names are paths from the top of the repository, those in links are paths from the page.
+check_links() {
+    local page name lacking=0 files
+    files=$(cat)
+    while IFS=: read -r page name; do
+        case $name in
+        *://*) continue ;;
+        ']('*) name=$(realpath -m --relative-to "$tree$doc" "$tree$doc/$(dirname "$page")/${name:2:-1}") ;;
+        *) name=${name#[\`\ (]} ;;
+        esac
+        if ! grep -qxF "$name" <<< "$files"; then
+            echo "$page of the package ${doc##*/} names $name, which it lacks" >&2
+            lacking=1
+        fi
+    done < <(cd "$tree$doc" && grep -roE --include='*.md' \
+        -e '\]\([^)#]+\)' -e '(docs|contrib)/[A-Za-z0-9_/]+\.(md|html)' -e '(^|[ (`])[A-Z_]+\.md' | sort -u)
+    return "$lacking"
+}
+
 # needs_of FILE: prints which version of the C library a program or a shared library needs.
 needs_of() {
     mkdir -p "$work/depends/debian"
@@ -96,6 +128,7 @@ make_library() {
     strip --strip-unneeded --remove-section=.comment "$shared"
     strip --strip-debug --remove-section=.comment --enable-deterministic-archives "$tree/usr/$libraries/libs10.a"
     put 644 "$contrib/c/README.md" "$doc/README.md"
+    check_links < <(pages) # Its page says that the others are in the package s10.
     for piece in demo.c s10_client.c s10_client.h s10_draw.c; do
         put 644 "$contrib/c/$piece" "$doc/examples/$piece"
     done
@@ -120,6 +153,7 @@ END
     name=libs10-dev tree=$work/libs10-dev
     finish <<END
 Depends: libs10-0 (= $version)
+Suggests: s10
 Source: s10
 Section: libdevel
 Multi-Arch: same
@@ -147,10 +181,10 @@ make_program() {
     put 644 "$work/texts/s10.fish" /usr/share/fish/vendor_completions.d/s10.fish
     put 644 "$contrib/s10.service" /lib/systemd/system/s10.service
     put 644 "$contrib/s10.lua" "/usr/$libraries/wireshark/plugins/s10.lua"
-    for page in README.md docs/OPERATING.md docs/TROUBLESHOOTING.md docs/DATAGRAMS.md docs/LEDGER.md docs/RULES.md docs/AT_MOST_ONCE.md; do
-        put 644 "$root/$page" "$doc/$(basename "$page")"
+    for page in $(pages); do
+        put 644 "$root/$page" "$doc/$page"
     done
-    put 644 "$contrib/README.md" "$doc/contrib.md"
+    check_links < <(cd "$tree$doc" && find . -type f -printf '%P\n')
     for piece in python/s10client.py python/libs10.py python/test_s10client.py turns.awk health; do
         put 644 "$contrib/$piece" "$doc/examples/$(basename "$piece")"
     done

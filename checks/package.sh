@@ -1,0 +1,90 @@
+#!/usr/bin/env bash
+# Checks what installs the program: the Debian package and the systemd unit.
+#
+#     bash checks/package.sh [PROGRAM]
+#
+# The package is built where git knows no name: it must have a maintainer, be the same byte for byte when it is built again, and
+# have each page that its pages name. Then the command of the unit is run without systemd, with the program in each folder that a
+# page installs it into. A tool that the machine lacks is named, and what needs it is skipped.
+set -eu -o pipefail
+
+top=$(readlink -f "$(dirname "$(readlink -f "${BASH_SOURCE[0]}")")/..")
+s10=$(readlink -f "${1:-$top/crates/s10/out/s10}")
+dir=$(mktemp -d)
+trap 'rm -rf "$dir"' EXIT
+
+fail() {
+    echo "failed: $1"
+    exit 1
+}
+
+# Whether the machine has the tools. Names the first that it lacks.
+have() { # TOOL..
+    local tool
+    for tool in "$@"; do
+        command -v "$tool" >/dev/null || { echo "skipped: no $tool"; return 1; }
+    done
+}
+
+# Builds the package in a clone that has the files of this folder, where git knows no name.
+build() { # FOLDER
+    mkdir "$dir/$1"
+    env -u MAINTAINER -u EMAIL HOME="$dir" GIT_CONFIG_NOSYSTEM=1 GIT_CONFIG_GLOBAL=/dev/null \
+        bash "$dir/clone/contrib/make_deb.sh" "$dir/program" "$dir/$1" >"$dir/names" 2>"$dir/words"
+}
+
+if have dpkg-deb dpkg-shlibdeps dpkg-architecture git strip; then
+    git clone -q --shared --no-checkout "$top" "$dir/clone"
+    cp -r "$top"/*.md "$top/docs" "$top/contrib" "$dir/clone"
+    # The texts are written from a program of any name.
+    cp "$s10" "$dir/program"
+    build one || fail "no package: $(cat "$dir/words")"
+    package=$(cat "$dir/names")
+    maintainer=$(dpkg-deb -f "$package" Maintainer)
+    [ "$maintainer" = "$(git -C "$top" log -1 --format='%an <%ae>')" ] || fail "the maintainer is $maintainer"
+    build two || fail "no package: $(cat "$dir/words")"
+    cmp "$package" "$dir/two/$(basename "$package")" || fail 'two packages differ'
+    dpkg-deb -x "$package" "$dir/root"
+    cmp -s "$top/contrib/s10.1" <(zcat "$dir/root/usr/share/man/man1/s10.1.gz") || fail 'the man page is not that of contrib'
+    ! have lintian || lintian --allow-root --fail-on error,warning "$package" || fail lintian
+
+    echo 'See docs/NOTHING.md.' >>"$dir/clone/docs/TOUR.md"
+    ! build three || fail 'a page that is not there'
+    grep -q 'docs/TOUR.md .* docs/NOTHING.md' "$dir/words" || fail "the words are $(cat "$dir/words")"
+    echo "ok: $(basename "$package"), $(find "$dir/root/usr/share/doc/s10" -name '*.md' | wc -l) pages"
+fi
+
+# Runs the command of the unit, with its settings, in which the folders of programs are below a folder of ours. Prints its lines
+# and its status.
+unit=$top/contrib/s10.service
+unit() { # SETTING..
+    local settings command
+    settings=$(sed -n 's/^Environment=//p' "$unit" | sed "s|/usr/local/bin|$dir/usr/local/bin|; s|:/usr/bin|:$dir/usr/bin:/usr/bin|")
+    command=$(sed -n 's/^ExecStart=//p' "$unit" | sed 's/\$\$/$/g')
+    # Word splitting separates the settings.
+    # shellcheck disable=SC2086
+    (cd "$dir/state" && env -i $settings "$@" bash -c "$command" 2>"$dir/words") || echo "status $?"
+}
+
+# The unit names the services that can delay time-sync.target. Those on this machine are ordered before it.
+grep -q '^After=.*time-sync.target' "$unit" || fail 'the unit does not wait for the clock'
+for service in systemd-time-wait-sync.service chrony-wait.service; do
+    grep -q "$service" "$unit" || fail "the unit does not name $service"
+    [ ! -e "/lib/systemd/system/$service" ] || grep -q '^Before=.*time-sync.target' "/lib/systemd/system/$service" ||
+        fail "$service does not delay time-sync.target"
+done
+
+mkdir "$dir/state"
+"$s10" create --ledger "$dir/state/ledger" --interval 30 --limit 1000 >/dev/null
+for folder in usr/local/bin usr/bin; do
+    rm -rf "${dir:?}/usr"
+    install -D "$s10" "$dir/$folder/s10"
+    came=$(unit S10_BIND=127.0.0.1:0 S10_COUNT=2)
+    grep -q '^serving on ' "$dir/words" || fail "the unit with the program in $folder: $(cat "$dir/words")"
+    [ -z "$came" ] || fail "the unit prints $came"
+done
+came=$(unit S10_BIND=nowhere)
+[ "$came" = "$(printf 'refused peer\nstatus 1')" ] || fail "the unit prints $came at no address"
+came=$(unit S10_COUNT=none)
+[ "$came" = 'status 2' ] || fail "the unit prints $came without a count"
+echo 'ok: the command of the unit'
