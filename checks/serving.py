@@ -54,7 +54,7 @@ def ask(link, datagram):
 @contextlib.contextmanager
 def serving(ledger):
     """Yields the address of a server on a new ledger, in which customer 7 has a range of all serials."""
-    subprocess.run([PROGRAM, "create", "--ledger", ledger, "--interval", "30", "--limit", "1000000"], check=True, stdout=subprocess.DEVNULL)
+    subprocess.run([PROGRAM, "create", "--ledger", ledger, "--interval", "30", "--limit", "10000000"], check=True, stdout=subprocess.DEVNULL)
     words = [PROGRAM, "serve", "--ledger", ledger, "--bind", "127.0.0.1:0", "--count", "4294967295", "--day", "20000"]
     with subprocess.Popen(words, stdout=subprocess.DEVNULL, stderr=subprocess.PIPE, text=True) as server:
         address = next(line.split()[-1] for line in server.stderr if line.startswith("serving on "))
