@@ -59,7 +59,8 @@ fi
 unit=$top/contrib/s10.service
 unit() { # SETTING..
     local settings command
-    settings=$(sed -n 's/^Environment=//p' "$unit" | sed "s|/usr/local/bin|$dir/usr/local/bin|; s|:/usr/bin|:$dir/usr/bin:/usr/bin|")
+    settings=$(sed -n 's/^Environment=//p' "$unit" |
+        sed "s|/usr/local/bin|$dir/usr/local/bin|; s|:/usr/bin|:$dir/usr/bin:/usr/bin|")
     command=$(sed -n 's/^ExecStart=//p' "$unit" | sed 's/\$\$/$/g')
     # Word splitting separates the settings.
     # shellcheck disable=SC2086

@@ -38,7 +38,7 @@ class Help(NamedTuple):
 
 
 def ask(program, *words):
-    """Returns what the program prints. It is started under the name s10, which its usage lines show, whatever its file is called."""
+    """Returns what the program prints. Its file may have any name: it is started as s10, which its usage lines show."""
     return subprocess.run(["s10", *words], executable=program, capture_output=True, text=True, check=True).stdout
 
 
