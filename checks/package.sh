@@ -44,14 +44,14 @@ if have dpkg-deb dpkg-shlibdeps dpkg-architecture git strip; then
     [ "$maintainer" = "$(git -C "$top" log -1 --format='%an <%ae>')" ] || fail "the maintainer is $maintainer"
     build two || fail "no package: $(cat "$dir/words")"
     cmp "$package" "$dir/two/$(basename "$package")" || fail 'two packages differ'
-    dpkg-deb -x "$package" "$dir/root"
-    cmp -s "$top/contrib/s10.1" <(zcat "$dir/root/usr/share/man/man1/s10.1.gz") || fail 'the man page is not that of contrib'
+    dpkg-deb -x "$package" "$dir/unpacked"
+    cmp -s "$top/contrib/s10.1" <(zcat "$dir/unpacked/usr/share/man/man1/s10.1.gz") || fail 'the man page is not that of contrib'
     ! have lintian || lintian --allow-root --fail-on error,warning "$package" || fail lintian
 
     echo 'See docs/NOTHING.md.' >>"$dir/clone/docs/TOUR.md"
     ! build three || fail 'a page that is not there'
     grep -q 'docs/TOUR.md .* docs/NOTHING.md' "$dir/words" || fail "the words are $(cat "$dir/words")"
-    echo "ok: $(basename "$package"), $(find "$dir/root/usr/share/doc/s10" -name '*.md' | wc -l) pages"
+    echo "ok: $(basename "$package"), $(find "$dir/unpacked/usr/share/doc/s10" -name '*.md' | wc -l) pages"
 fi
 
 # Runs the command of the unit, with its settings, in which the folders of programs are below a folder of ours. Prints its lines
