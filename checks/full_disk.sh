@@ -64,9 +64,10 @@ stop() {
     fi
 }
 
-# Creates a ledger with one range on a new file system, and serves it.
-begin() { # SIZE COUNT
-    mount -t tmpfs -o size="$1" tmpfs "$disk"
+# Creates a ledger with one range on a new file system of 8 MiB, of which the filler has the given number of bytes, and serves it.
+begin() { # BYTES COUNT
+    mount -t tmpfs -o size=8m tmpfs "$disk"
+    head -c "$1" /dev/zero >"$disk/filler"
     rm -f answers.* left.* after.*
     [ "$("$s10" create --ledger "$ledger" --interval 30 --limit 1000000)" = created ] || fail create
     serve "$2"
@@ -84,7 +85,7 @@ draw() { # NUMBER TRIES
 
 # Takes all free space.
 fill() {
-    dd if=/dev/zero of="$disk/filler" bs=4096 2>/dev/null || true
+    dd if=/dev/zero of="$disk/filler" bs=4096 oflag=append conv=notrunc 2>/dev/null || true
 }
 
 free() {
@@ -143,8 +144,8 @@ check_ledger() { # FILE DRAWS
     cmp -s drawn reported || fail "the report is not what was drawn: $(diff drawn reported | head -n 3 | paste -sd' ')"
 }
 
-# The server is over a file system of that size. The disk is filled while all clients draw, once the command succeeds.
-fill_and_free() { # SIZE COMMAND
+# The disk is filled while all clients draw, once the command succeeds.
+fill_and_free() { # BYTES COMMAND WORDS
     begin "$1" 4294967295
     running=
     for first in $(seq "$clients"); do
@@ -161,6 +162,7 @@ fill_and_free() { # SIZE COMMAND
     for client in $running; do wait "$client" || fail 'a client'; done
 
     # The disk is full, and no client draws.
+    if [ "$1" != 0 ] && is_moved; then fail 'the log was moved into the file'; fi
     done_draws answers.* | sort >answered
     [ "$(cat answers.* | grep -cvx gave-up)" = "$(wc -l <answered)" ] || fail 'a draw was refused'
     [ "$(cat answers.* | grep -cx gave-up)" = "$clients" ] || fail 'a draw got a reply though the disk is full'
@@ -200,7 +202,7 @@ fill_and_free() { # SIZE COMMAND
     done
     stop
     check_ledger "$ledger" all
-    echo "$2: $(wc -l <answered) draws, $withheld replies withheld on a full disk, then $(wc -l <continued) draws: all right"
+    echo "filled $3: $(wc -l <answered) draws, $withheld replies withheld on a full disk, then $(wc -l <continued) draws: all right"
     end
 }
 
@@ -212,8 +214,9 @@ is_moved() {
     [ "$(stat -c %s "$ledger")" -gt 32768 ]
 }
 
-fill_and_free 8m is_growing
-fill_and_free 8m is_moved
+# Where the filler has 5 MB, there is no space for the greatest log, of about 4.4 MB. So the log is not moved.
+fill_and_free 5000000 is_growing 'while the log grows'
+fill_and_free 0 is_moved 'after the log was moved'
 
 # Repeats the first draw until the server has served its turns. Sets `status` to its exit status.
 use_up() { # COUNT
@@ -234,7 +237,7 @@ use_up() { # COUNT
 
 # A server reaches its count on a full disk, with nine pending calls. The next one executes them.
 count=120
-begin 4m "$count"
+begin 0 "$count"
 number=1
 while draw "$number" 1 >>answers.1; do
     [ "$number" != 5 ] || fill
@@ -268,4 +271,4 @@ use_up "$count"
 [ "$status; $(wc -l <turns)" = "0; $count" ] || fail "the server ended with status $status after $(wc -l <turns) lines"
 check_ledger "$ledger" all
 end
-echo "count reached: $(wc -l <answered) draws, then \`ledger store\` and status 3; later $(wc -l <all) draws: all right"
+echo "count reached on a full disk: $(wc -l <answered) draws, then \`ledger store\` and status 3; later $(wc -l <all) draws: all right"
