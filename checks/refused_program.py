@@ -224,9 +224,9 @@ def refuse_memory(room):
 
     for what, kept, day, datagrams in (
         ("seven calls", [], 20000, FIRST),
-        ("two calls behind seven", [(20000, FIRST)], 20030, LATER),
-        ("a sheet behind seven", [(20000, FIRST)], 20030, [SHEET]),
-        ("a withdrawal and a draw behind seven", [(20000, FIRST)], 20030, [WITHDRAW, draw(7)]),
+        ("two calls after seven", [(20000, FIRST)], 20030, LATER),
+        ("a sheet after seven", [(20000, FIRST)], 20030, [SHEET]),
+        ("a withdrawal and a draw after seven", [(20000, FIRST)], 20030, [WITHDRAW, draw(7)]),
     ):
         base = make(f"{room}/{what}", kept)
         told = [(then, it) for then, those in kept for it in those]
