@@ -1,67 +1,132 @@
 //! The program `s10`: its words, its standard input and output, and its exit status.
 #![tactic(auto)]
 
-ghost use Rattle.std.specs.Prelude.{◌≡◌, ◌≢◌, ℕ, List, Option, Result, map, IfOk};
-ghost use Rattle.std.specs.Io.KnownBytes.{Keeps};
+ghost use Rattle.std.specs.Prelude.{◌≡◌, ◌≢◌, ℕ, List, Option, Some, None, map, IfOk, IfSome};
+ghost use Rattle.std.specs.Prelude.{MatchOption};
 ghost use Rattle.std.specs.IoError.{error_kind};
 ghost use Rattle.std.specs.declared.io.ErrorKind.TheVariants.{InvalidData};
-ghost use Rattle.s10_lines.specs.declared.write_fault.WriteFault.{WriteFault};
-ghost use Rattle.s10_jobs.specs.declared.job.Job.{Job};
-ghost use Rattle.s10_jobs.specs.declared.job_status.JobStatus.{JobStatus};
 ghost use Rattle.s10_jobs.specs.declared.job_status.JobStatus.TheVariants.{CommandLine, Failed};
-ghost use Rattle.s10_host.specs.Jobs.{HasEnded};
-ghost use Rattle.s10_cli.specs.Jobs.{AsksInWords};
-ghost use Rattle.s10_cli.specs.CommandLine.{exit_status};
+ghost use Rattle.s10.specs.Ends.{RunsWords, RunsJob};
 
 use s10_cli::{flush_buffer, parse_job, run_buffered};
 use s10_host::{JobResources, run_job};
-use s10_jobs::JobStatus;
+use s10_jobs::{ClockDays, Days, JobStatus};
 use s10_lines::WriteFault;
 use sqlite::{Start, Unknown};
 use std::convert::AsStr;
 use std::io;
-use std::io::{BufWriter, ErrorKind, Write};
+use std::io::{BufWriter, ErrorKind, Read, Write};
 use std::process::ExitCode;
 
 fn main(rt: HostRuntime) -> ExitCode {
-    let status = match run(&rt) {
-        Ok(status) => status,
-        Err(error) => eprint_error(&rt, &error) as u8,
+    let words = match words_of(&rt) {
+        Ok(words) => words,
+        Err(error) => return ExitCode::from(print_word_error(&rt, &error) as u8),
     };
+    let mut days = ClockDays { clock: &rt };
+    let output = io::writer(&rt);
+    let (status, _ended) = run(
+        &rt,
+        words.as_slice(),
+        rt.reader(),
+        output,
+        Unknown,
+        &mut days,
+    );
     ExitCode::from(status)
 }
 
-fn run(rt: &HostRuntime) -> io::Result<u8> {
-    let words: Vec<String> = std::env::args(rt)?.collect(rt.alloc())?;
-    let words = words.as_slice();
-    match run_buffered(rt, words, rt.reader(), io::writer(rt))? {
-        (Some(status), _output) => Ok(status),
+fn words_of(rt: &HostRuntime) -> io::Result<Vec<String>> {
+    std::env::args(rt)?.collect(rt.alloc())
+}
+
+// How a command line ended.
+#[derive(Drop)]
+struct Ended<S: Start, O> {
+    // The exit status.
+    status: u8,
+    // The output, flushed.
+    output: O,
+    // The resources of the job, if the words ask for one.
+    left: Option<JobResources<S>>,
+}
+
+// Runs a command line over two streams. Returns the exit status, and how it ended unless the output
+// failed or memory is lacking.
+fn run<S: Start, D: Days, W: AsStr, I: Read + Drop, O: Write + Drop>(
+    rt: &HostRuntime,
+    words: &[W],
+    input: I,
+    output: O,
+    start: S,
+    days: &mut D,
+) -> (u8, Option<Ended<S, O>>)
+    ensures status { IfSome result.1 (λ ended. result.0 ≡ ended.status) }
+    ensures ended { IfSome result.1 (λ ended. MatchOption ended.left
+        (RunsWords (map W.text words.now) (I.remaining input) (O.contents output)
+        (O.contents ended.output) (Some ended.status))
+        (λ left. (between : Option (List ℕ)) × RunsWords (map W.text words.now) (I.remaining input)
+        (O.contents output) between None
+        × RunsJob S.row S.Start D.gives (map W.text words.now) days.old days.new between
+        (O.contents ended.output) ended.status left.files left.link left.looped)) }
+    ensures failed { result.1 ≡ None → result.0 ≡ 3 }
+{
+    match run_streams(rt, words, input, output, start, days) {
+        Ok(ended) => (ended.status, Some(ended)),
+        Err(error) => (print_failure(rt, &error) as u8, None),
+    }
+}
+
+fn run_streams<S: Start, D: Days, W: AsStr, I: Read + Drop, O: Write + Drop>(
+    rt: &HostRuntime,
+    words: &[W],
+    input: I,
+    output: O,
+    start: S,
+    days: &mut D,
+) -> io::Result<Ended<S, O>>
+    ensures { IfOk result (λ ended. MatchOption ended.left
+        (RunsWords (map W.text words.now) (I.remaining input) (O.contents output)
+        (O.contents ended.output) (Some ended.status))
+        (λ left. (between : Option (List ℕ)) × RunsWords (map W.text words.now) (I.remaining input)
+        (O.contents output) between None
+        × RunsJob S.row S.Start D.gives (map W.text words.now) days.old days.new between
+        (O.contents ended.output) ended.status left.files left.link left.looped)) }
+{
+    match run_buffered(rt, words, input, output)? {
+        (Some(status), output) => Ok(Ended {
+            status,
+            output,
+            left: None,
+        }),
         (None, output) => {
-            let (status, _output, _left) = run_words(rt, words, Unknown, output)?;
-            Ok(status)
+            let (status, output, left) = run_words(rt, words, start, days, output)?;
+            Ok(Ended {
+                status,
+                output,
+                left: Some(left),
+            })
         }
     }
 }
 
 // Runs the job that the words ask for. Returns the exit status, the output and the resources.
-fn run_words<S: Start, W: AsStr, O: Write + Drop>(
+fn run_words<S: Start, D: Days, W: AsStr, O: Write + Drop>(
     rt: &HostRuntime,
     words: &[W],
     start: S,
+    days: &mut D,
     output: O,
 ) -> io::Result<(u8, O, JobResources<S>)>
-    ensures { IfOk result (λ ended. (job : Job) × (done : Result JobStatus WriteFault)
-        × (printed : Option (List ℕ))
-        × AsksInWords (map W.text words.now) job
-        × HasEnded S.row S.Start job (O.contents output) printed done ended.2.files ended.2.link
-        ended.2.looped
-        × Keeps printed (O.contents ended.1) × (ended.0 ≡ exit_status done)) }
+    ensures { IfOk result (λ ended. RunsJob S.row S.Start D.gives (map W.text words.now) days.old
+        days.new (O.contents output) (O.contents ended.1) ended.0 ended.2.files ended.2.link
+        ended.2.looped) }
 {
     let Ok(Some(job)) = parse_job(rt.alloc(), words) else {
         return Err(io::Error::from(ErrorKind::OutOfMemory));
     };
     let mut output = BufWriter::new(rt.alloc(), output)?;
-    let (done, left) = run_job(rt, &job, start, &mut output);
+    let (done, left) = run_job(rt, &job, start, days, &mut output);
     let output = flush_buffer(output)?;
     match done {
         Ok(status) => Ok((status as u8, output, left)),
@@ -69,8 +134,8 @@ fn run_words<S: Start, W: AsStr, O: Write + Drop>(
     }
 }
 
-// Prints why the program cannot continue, and returns the status.
-fn eprint_error<R: Print + Eprint>(rt: &R, error: &io::Error) -> JobStatus
+// Prints why the words of the command line cannot be read, and returns the status.
+fn print_word_error<R: Print + Eprint>(rt: &R, error: &io::Error) -> JobStatus
     ensures words { error_kind error.now ≡ InvalidData → result ≡ CommandLine }
     ensures other { error_kind error.now ≢ InvalidData → result ≡ Failed }
 {
@@ -79,13 +144,21 @@ fn eprint_error<R: Print + Eprint>(rt: &R, error: &io::Error) -> JobStatus
             let _ = rt.eprintln("error: the command line is not UTF-8");
             JobStatus::CommandLine
         }
+        _ => print_failure(rt, error),
+    }
+}
+
+// Prints that the output failed or that memory is lacking, and returns the status.
+fn print_failure<R: Print + Eprint>(rt: &R, error: &io::Error) -> JobStatus
+    ensures { result ≡ Failed }
+{
+    match error.kind() {
         ErrorKind::OutOfMemory => {
             let _ = rt.println("memory");
-            JobStatus::Failed
         }
         _ => {
             let _ = eprintln!(rt; "error: the output cannot be written: {error}");
-            JobStatus::Failed
         }
     }
+    JobStatus::Failed
 }

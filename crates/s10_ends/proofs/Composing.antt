@@ -21,7 +21,7 @@ use Rattle.s10_ends.specs.Served.{Dated, IsOwed, Served}
 use Rattle.s10_ends.specs.Turn.{Turn, Handles, Commits}
 use Rattle.s10_ends.specs.Batch.{ReceivesAll, ServesBatch, IsOwedReply, CommitsIfPending}
 use Rattle.s10_ends.specs.Batch.ReceivesAll.{none as taken_none, more as taken_more}
-use Rattle.s10_ends.specs.Composed.{BatchesLead, turns_in, IsBatch, deliveries_in, answers_in}
+use Rattle.s10_ends.specs.Composed.{DatedBatch, BatchesLead, turns_in, IsBatch, deliveries_in, answers_in}
 use Rattle.s10_ends.specs.Composed.{ServesAll}
 use Rattle.s10_ends.proofs.Whole.{Served-nil, Served-push, IsOwed-more}
 use Rattle.s10_ends.proofs.Runs.{KeepsPromises-legal}
@@ -55,7 +55,7 @@ all_more before after ds es ts grew among all =
 
 module _ {B : Type 0} (faults : B → Faults) (honest : B → Type 0) (terms : B → Terms)
     (history committed : B → List Entry) (clean : B → Type 0)
-    (may_find : B → Option (List Entry) → Type 0) (given : Option ℕ) where
+    (may_find : B → Option (List Entry) → Type 0) where
   abbrev pub Handled : ℕ → B → B → List ℕ → Answer → Type 0
   Handled day before after b answer = Handles faults honest terms history committed clean may_find
       before after day
@@ -76,16 +76,16 @@ module _ {B : Type 0} (faults : B → Faults) (honest : B → Type 0) (terms : B
   honest_answered between new ts commit_result (inl it) h = it.2.unchanged.was_honest h
   honest_answered between new ts commit_result (inr it) h = subst honest it.0 h
 
-  pub honest_batch : (old new : Trace × B) (batch : List Turn) → IsBatch faults honest terms history
-      committed clean may_find given old batch new → honest new.1 → honest old.1
-  honest_batch old new batch (day, is, most, it) h =
+  pub honest_batch : (old new : Trace × B) (batch : DatedBatch) → IsBatch faults honest terms history
+      committed clean may_find old batch new → honest new.1 → honest old.1
+  honest_batch old new batch (most, it) h =
       let between = honest_answered it.between.1 new.1 it.taken it.answers.commit_result
       it.answers.commits h in
-      honest_taken day old it.takes.handled it.taken it.takes.takes
+      honest_taken batch.day old it.takes.handled it.taken it.takes.takes
       (subst honest it.takes.same between)
 
-  pub honest_batches : (old new : Trace × B) (batches : List (List Turn))
-      → BatchesLead (IsBatch faults honest terms history committed clean may_find given) old batches
+  pub honest_batches : (old new : Trace × B) (batches : List DatedBatch)
+      → BatchesLead (IsBatch faults honest terms history committed clean may_find) old batches
       new
       → honest new.1 → honest old.1
   unfolding BatchesLead
@@ -183,32 +183,31 @@ module _ {B : Type 0} (faults : B → Faults) (honest : B → Type 0) (terms : B
         it.between.1 it.takes.same taken)
 
     pub upto_batches : (ds : List Dated) (ans : List Answer) (old new : Trace × B)
-        (batches : List (List Turn))
-        (lead : BatchesLead (IsBatch faults honest terms history committed clean may_find given) old
+        (batches : List DatedBatch)
+        (lead : BatchesLead (IsBatch faults honest terms history committed clean may_find) old
         batches new)
         → honest new.1 → Upto ds ans old.1
         → Upto (ds ++ deliveries_in faults honest terms history committed clean may_find old new
-        batches given
+        batches
         lead) (ans ++ answers_in faults honest terms history committed clean may_find old new
-        batches given
+        batches
         lead) new.1
     unfolding BatchesLead deliveries_in answers_in
     upto_batches ds ans old new [] same h upto =
         of_lists ds (ds ++ []) ans (ans ++ []) new.1 (append-nil ds) (append-nil ans)
         (subst (λ (s : Trace × B). Upto ds ans s.1) (sym same) upto)
-    upto_batches ds ans old new (batch ∷ batches) (next, (day, is, most, it), rest) h upto =
+    upto_batches ds ans old new (batch ∷ batches) (next, (most, it), rest) h upto =
         let more = deliveries_in faults honest terms history committed clean may_find next new
-        batches given
+        batches
         rest in
-        let told = answers_in faults honest terms history committed clean may_find next new batches
-        given rest in
-        of_lists ((ds ++ packets day it.taken) ++ more) (ds ++ (packets day it.taken ++ more))
+        let told = answers_in faults honest terms history committed clean may_find next new batches rest in
+        of_lists ((ds ++ packets batch.day it.taken) ++ more) (ds ++ (packets batch.day it.taken ++ more))
         ((ans ++ answers_of it.taken) ++ told) (ans ++ (answers_of it.taken ++ told)) new.1
-        (sym (append_assoc ds (packets day it.taken) more))
+        (sym (append_assoc ds (packets batch.day it.taken) more))
         (sym (append_assoc ans (answers_of it.taken) told))
-        (upto_batches (ds ++ packets day it.taken) (ans ++ answers_of it.taken) next new batches
+        (upto_batches (ds ++ packets batch.day it.taken) (ans ++ answers_of it.taken) next new batches
         rest
-        h (upto_batch ds ans day most old next batch it (honest_batches next new batches rest h)
+        h (upto_batch ds ans batch.day most old next batch.turns it (honest_batches next new batches rest h)
         upto))
 
   pub here : (book : B) → Upto (history book) (terms book) (committed book) [] [] book
@@ -219,40 +218,39 @@ module _ {B : Type 0} (faults : B → Faults) (honest : B → Type 0) (terms : B
   }
 
   -- Every reply that was sent is owed to a delivery by the calls that are committed at the end.
-  owe : (old new : Trace × B) (batches : List (List Turn))
-      (lead : BatchesLead (IsBatch faults honest terms history committed clean may_find given) old
+  owe : (old new : Trace × B) (batches : List DatedBatch)
+      (lead : BatchesLead (IsBatch faults honest terms history committed clean may_find) old
       batches new)
       → honest new.1
       → All (IsOwedReply (committed new.1) (deliveries_in faults honest terms history committed
       clean may_find old
-      new batches given lead)) (turns_in batches)
+      new batches lead)) (turns_in batches)
   unfolding BatchesLead deliveries_in
   owe old new [] same h = All-nil (IsOwedReply (committed new.1) [])
-  owe old new (batch ∷ batches) (next, (day, is, most, it), rest) h =
+  owe old new (batch ∷ batches) (next, (most, it), rest) h =
       let then = honest_batches next new batches rest h in
       let grew = (upto_batches (history next.1) (terms next.1) (committed next.1) [] [] next new
       batches rest h (here next.1)).stays_committed in
-      let first = packets day it.taken in
-      let more = deliveries_in faults honest terms history committed clean may_find next new batches
-      given rest in
-      All-append (IsOwedReply (committed new.1) (first ++ more)) batch (turns_in batches)
-      (all_more (committed next.1) (committed new.1) first (first ++ more) batch grew
+      let first = packets batch.day it.taken in
+      let more = deliveries_in faults honest terms history committed clean may_find next new batches rest in
+      All-append (IsOwedReply (committed new.1) (first ++ more)) batch.turns (turns_in batches)
+      (all_more (committed next.1) (committed new.1) first (first ++ more) batch.turns grew
       (λ d inside. Contains-append_left first more d inside)
-      (batch_owes faults honest terms history committed clean may_find day most old next batch it
+      (batch_owes faults honest terms history committed clean may_find batch.day most old next batch.turns it
       then))
       (all_more (committed new.1) (committed new.1) more (first ++ more) (turns_in batches)
       (grows_none (committed new.1)) (λ d inside. Contains-append_right first more d inside)
       (owe next new batches rest h))
 
   pub all_composed : ((book : B) → honest book → IsLegal (history book) (terms book))
-      → (old new : Trace × B) (batches : List (List Turn))
-      (lead : BatchesLead (IsBatch faults honest terms history committed clean may_find given) old
+      → (old new : Trace × B) (batches : List DatedBatch)
+      (lead : BatchesLead (IsBatch faults honest terms history committed clean may_find) old
       batches new)
       → honest new.1
       → ServesAll faults honest terms history committed clean may_find old.1 new.1
-      (deliveries_in faults honest terms history committed clean may_find old new batches given
+      (deliveries_in faults honest terms history committed clean may_find old new batches
       lead)
-      (answers_in faults honest terms history committed clean may_find old new batches given lead)
+      (answers_in faults honest terms history committed clean may_find old new batches lead)
       (turns_in batches)
   all_composed legal old new batches lead h =
       let upto = upto_batches (history old.1) (terms old.1) (committed old.1) [] [] old new batches
@@ -266,6 +264,6 @@ module _ {B : Type 0} (faults : B → Faults) (honest : B → Type 0) (terms : B
         stays_committed = upto.stays_committed;
         stands = all_sent (committed new.1) (deliveries_in faults honest terms history committed
             clean may_find old
-            new batches given lead) (turns_in batches) (owe old new batches lead h);
+            new batches lead) (turns_in batches) (owe old new batches lead h);
         owed = owe old new batches lead h;
       }

@@ -17,3 +17,4 @@ pub mod Standing
 pub mod Composing
 pub mod Stops
 pub mod ReceiveCount
+pub mod Bound

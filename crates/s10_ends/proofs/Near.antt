@@ -40,7 +40,8 @@ one_more_on day h h1 h2 t t1 b answer before same one = record {
 
 module _ {B F N : Type 0} (faults : B → Faults) (honest : B → Type 0) (terms : B → Terms)
     (history committed : B → List Entry) (clean : B → Type 0)
-    (may_find : B → Option (List Entry) → Type 0) (far : F → Trace) (near : N → Trace) where
+    (may_find : B → Option (List Entry) → Type 0) (far : F → Trace) (near : N → Trace)
+    (far_step : F → F → Type 0) where
   -- The book before and after datagrams of that day.
   pub record LedOn (day : ℕ) (old new : B) : Type 0 where
     pub was_honest : honest new → honest old
@@ -91,7 +92,7 @@ module _ {B F N : Type 0} (faults : B → Faults) (honest : B → Type 0) (terms
       one.takes one.answers
 
   abbrev Step : NearEnds B F N → NearEnds B F N → Type 0
-  Step = IsNearStep faults honest terms history committed clean may_find far near
+  Step = IsNearStep faults honest terms history committed clean may_find far near far_step
 
   pub day_stays : (old new : NearEnds B F N) → LeadsTo Step old new → new.day ≡ old.day
   day_stays old _ none = refl

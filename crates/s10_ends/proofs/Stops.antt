@@ -27,7 +27,7 @@ use Rattle.s10_ends.specs.Stop.AreSome.{none, without, with}
 use Rattle.s10_ends.specs.Turn.{Turn, Handles, Commits}
 use Rattle.s10_ends.specs.Batch.{ReceivesAll, ServesBatch, CommitsIfPending}
 use Rattle.s10_ends.specs.Batch.ReceivesAll.{none as taken_none, more as taken_more}
-use Rattle.s10_ends.specs.Composed.{BatchesLead, turns_in, IsBatch, deliveries_in, answers_in}
+use Rattle.s10_ends.specs.Composed.{BatchesLead, turns_in, IsBatch, DatedBatch, deliveries_in, answers_in}
 use Rattle.s10_ends.specs.Composed.{SurvivesStop}
 use Rattle.s10_ends.proofs.Whole.{IsOnce-append, grows, of_history}
 use Rattle.s10_ends.proofs.Standing.{all_sent}
@@ -249,7 +249,7 @@ module _ {B : Type 0} (terms : B → Terms) (history committed : B → List Entr
 
 module _ {B : Type 0} (faults : B → Faults) (honest : B → Type 0) (terms : B → Terms)
     (history committed : B → List Entry) (clean : B → Type 0)
-    (may_find : B → Option (List Entry) → Type 0) (given : Option ℕ) where
+    (may_find : B → Option (List Entry) → Type 0) where
   abbrev StopsIn : B → B → List Dated → Type 0
   StopsIn = StopsAfter terms history committed honest clean may_find
 
@@ -272,16 +272,16 @@ module _ {B : Type 0} (faults : B → Faults) (honest : B → Type 0) (terms : B
       old.1 []
   stops_taken day old new _ (taken_more {between = between} {taken = ts} {next = next} takes
       last) =
-      let upto : honest between.1 → Upto faults honest terms history committed clean may_find given
+      let upto : honest between.1 → Upto faults honest terms history committed clean may_find
       (history old.1) (terms old.1) (committed old.1) (sent day ts) (told ts) between.1 =
-      λ h. upto_taken faults honest terms history committed clean may_find given (history old.1)
+      λ h. upto_taken faults honest terms history committed clean may_find (history old.1)
       (terms old.1) (committed old.1) day [] [] old between ts takes h
-      (here faults honest terms history committed clean may_find given old.1) in
+      (here faults honest terms history committed clean may_find old.1) in
       of_list old.1 new.1 (sent day ts ++ (next.packet, day) ∷ []) (sent day (ts ++ next ∷ []))
       (map-append (λ (t : Exchange). (t.packet, day)) ts (next ∷ []))
       (stops_trans terms history committed honest clean may_find old.1 between.1 new.1 (sent day ts)
       ((next.packet, day) ∷ []) (told ts) (stops_taken day old between ts takes)
-      (honest_taken faults honest terms history committed clean may_find given day old between ts
+      (honest_taken faults honest terms history committed clean may_find day old between ts
       takes)
       (λ h. (upto h).same_terms) (λ h. (upto h).served) (λ h. (upto h).stays_committed)
       last.1.stop)
@@ -305,44 +305,44 @@ module _ {B : Type 0} (faults : B → Faults) (honest : B → Type 0) (terms : B
       let after : StopsIn middle.1 new.1 [] = subst (λ (x : B). StopsIn x new.1 []) it.takes.same
       (stops_answered first_law it.between.1 new.1 it.taken it.answers.commit_result
       it.answers.commits) in
-      let upto : honest middle.1 → Upto faults honest terms history committed clean may_find given
+      let upto : honest middle.1 → Upto faults honest terms history committed clean may_find
       (history old.1) (terms old.1) (committed old.1) (sent day it.taken) (told it.taken)
       middle.1 =
-      λ h. upto_taken faults honest terms history committed clean may_find given (history old.1)
+      λ h. upto_taken faults honest terms history committed clean may_find (history old.1)
       (terms old.1) (committed old.1) day [] [] old middle it.taken it.takes.takes h
-      (here faults honest terms history committed clean may_find given old.1) in
+      (here faults honest terms history committed clean may_find old.1) in
       of_list old.1 new.1 (sent day it.taken ++ []) (sent day it.taken)
       (sym (append-nil (sent day it.taken)))
       (stops_trans terms history committed honest clean may_find old.1 middle.1 new.1
       (sent day it.taken) [] (told it.taken) (stops_taken day old middle it.taken it.takes.takes)
-      (honest_taken faults honest terms history committed clean may_find given day old middle
+      (honest_taken faults honest terms history committed clean may_find day old middle
       it.taken it.takes.takes)
       (λ h. (upto h).same_terms) (λ h. (upto h).served) (λ h. (upto h).stays_committed) after)
 
   pub stops_batches : ((book : B) → honest book → Grows (committed book) (history book))
-      → (old new : Trace × B) (batches : List (List Turn))
-      (lead : BatchesLead (IsBatch faults honest terms history committed clean may_find given) old
+      → (old new : Trace × B) (batches : List DatedBatch)
+      (lead : BatchesLead (IsBatch faults honest terms history committed clean may_find) old
       batches new)
       → StopsIn old.1 new.1 (deliveries_in faults honest terms history committed clean may_find old
-      new batches given lead)
+      new batches lead)
   unfolding BatchesLead deliveries_in
   stops_batches first_law old new [] same = stops_same terms history committed honest clean may_find
       old.1
       new.1 [] (ap (λ (s : Trace × B). s.1) same)
-  stops_batches first_law old new (batch ∷ batches) (next, (day, is, most, it), rest) =
-      let upto : honest next.1 → Upto faults honest terms history committed clean may_find given
-      (history old.1) (terms old.1) (committed old.1) (sent day it.taken) (told it.taken)
+  stops_batches first_law old new (batch ∷ batches) (next, (most, it), rest) =
+      let upto : honest next.1 → Upto faults honest terms history committed clean may_find
+      (history old.1) (terms old.1) (committed old.1) (sent batch.day it.taken) (told it.taken)
       next.1 =
-      λ h. upto_batch faults honest terms history committed clean may_find given (history old.1)
-      (terms old.1) (committed old.1) [] [] day most old next batch it h
-      (here faults honest terms history committed clean may_find given old.1) in
+      λ h. upto_batch faults honest terms history committed clean may_find (history old.1)
+      (terms old.1) (committed old.1) [] [] batch.day most old next batch.turns it h
+      (here faults honest terms history committed clean may_find old.1) in
       stops_trans terms history committed honest clean may_find old.1 next.1 new.1
-      (sent day it.taken)
-      (deliveries_in faults honest terms history committed clean may_find next new batches given
+      (sent batch.day it.taken)
+      (deliveries_in faults honest terms history committed clean may_find next new batches
       rest)
-      (told it.taken) (stops_batch first_law day most old next batch it)
-      (honest_batch faults honest terms history committed clean may_find given old next batch
-      (day, is, most, it))
+      (told it.taken) (stops_batch first_law batch.day most old next batch.turns it)
+      (honest_batch faults honest terms history committed clean may_find old next batch
+      (most, it))
       (λ h. (upto h).same_terms) (λ h. (upto h).served) (λ h. (upto h).stays_committed)
       (stops_batches first_law next new batches rest)
 
@@ -351,16 +351,13 @@ module _ {B : Type 0} (faults : B → Faults) (honest : B → Type 0) (terms : B
       → ((book : B) → honest book → (found : Option (List Entry)) → may_find book found
       → found ≡ Some (committed book))
       → (old new : Trace × B)
-      → SurvivesStop faults honest terms history committed clean may_find given old new
+      → SurvivesStop faults honest terms history committed clean may_find old new
   survived legal first_law found_law old new first rest between before after h c found may =
-      let all = all_composed faults honest terms history committed clean may_find given legal old
+      let all = all_composed faults honest terms history committed clean may_find legal old
       between first before h in
-      let ds = deliveries_in faults honest terms history committed clean may_find old between first
-      given before in
-      let ans = answers_in faults honest terms history committed clean may_find old between first
-      given before in
-      let es = deliveries_in faults honest terms history committed clean may_find between new rest
-      given after in
+      let ds = deliveries_in faults honest terms history committed clean may_find old between first before in
+      let ans = answers_in faults honest terms history committed clean may_find old between first before in
+      let es = deliveries_in faults honest terms history committed clean may_find between new rest after in
       let among : IsFoundAmong (committed between.1) (history old.1) (terms old.1).interval
       (ds ++ es) found =
       ⊎_elim

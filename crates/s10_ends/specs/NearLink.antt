@@ -3,7 +3,7 @@ use Rattle.std.specs.Prelude.{◌≡◌, ◌⊎◌, ℕ, List, All, Option}
 use Rattle.s10_wire.specs.declared.frame.Frame.{Frame}
 use Rattle.s10_link.specs.declared.peer.Peer.{Peer}
 use Rattle.s10_link.specs.declared.trace.Trace.{Trace}
-use Rattle.s10_link.specs.Link.{ReceiveResult, SendResult, Receives, Sends}
+use Rattle.s10_link.specs.Link.{ReceiveResult, SendResult, Receives, Sends, LeadsTo}
 use Rattle.s10_history.specs.declared.entry.Entry.{Entry}
 use Rattle.s10_book.specs.declared.faults.Faults.{Faults}
 use Rattle.s10_history.specs.Settings.{Terms}
@@ -44,7 +44,8 @@ module _ {B F N : Type 0} (faults : B → Faults) (honest : B → Type 0) (terms
       × Sends (near old.near) (near new.near) p sent × (new.server ≡ old.server)
       × (new.far ≡ old.far)
 
-  -- One call of the link. The day is unchanged.
-  pub record IsNearStep (old new : NearEnds B F N) : Type 0 where
+  -- One call of the link. The day is unchanged, and the far end was changed by its own calls alone.
+  pub record IsNearStep (far_step : F → F → Type 0) (old new : NearEnds B F N) : Type 0 where
     pub day : new.day ≡ old.day
+    pub led : LeadsTo far_step old.far new.far
     pub call : IsNearReceive old new ⊎ IsNearSend old new

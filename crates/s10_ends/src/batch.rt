@@ -1,6 +1,7 @@
 //! Serves one batch of datagrams on a link.
 
 ghost use Rattle.std.specs.Prelude.{◌≡◌, ◌≤◌, ◌+◌, [], length, All, IfOk, OnErr, vec_capacity, Ok};
+ghost use Rattle.s10_link.specs.Link.{LeadsTo};
 ghost use Rattle.s10_ends.specs.Server.{book_of};
 ghost use Rattle.s10_ends.specs.Batch.{ServesBatch, CommitsAndReplies, IsSentCommitted};
 ghost use Rattle.s10_ends.specs.Batch.{ReceivesAtMost, turns_of_batch};
@@ -49,6 +50,7 @@ pub fn serve_batch<B: GroupCommit, L: Link>(
     ensures few { IfOk result (λ turns. length turns.items ≤ most) }
     ensures refused { OnErr result ((L.trace_of link.new ≡ L.trace_of link.old)
         × (book_of server.new ≡ book_of server.old)) }
+    ensures led { LeadsTo L.step link.old link.new }
 {
     let mut taken = Vec::with_capacity(alloc, most as usize)?;
     let mut turns = Vec::with_capacity(alloc, most as usize + 1)?;
@@ -73,6 +75,7 @@ fn commit_and_reply<B: GroupCommit, L: Link>(
         taken.now turns.new.items }
     ensures many { length turns.new.items ≡ length taken.now }
     ensures capacity { vec_capacity turns.new ≡ vec_capacity turns.old }
+    ensures led { LeadsTo L.step link.old link.new }
 {
     let commit_result = commit_if_pending(server, taken);
     reply_all(link, server, taken, commit_result, turns);

@@ -1,9 +1,8 @@
 //! States that batches one after another give what one run gives.
 
-ghost use Rattle.std.specs.Prelude.{ℕ, List, Option};
+ghost use Rattle.std.specs.Prelude.{List};
 ghost use Rattle.s10_link.specs.declared.trace.Trace.{Trace};
-ghost use Rattle.s10_ends.specs.Turn.{Turn};
-ghost use Rattle.s10_ends.specs.Composed.{BatchesLead, turns_in, IsBatch, deliveries_in};
+ghost use Rattle.s10_ends.specs.Composed.{DatedBatch, BatchesLead, turns_in, IsBatch, deliveries_in};
 ghost use Rattle.s10_ends.specs.Composed.{answers_in, ServesAll, SurvivesStop};
 
 use s10_book::Book;
@@ -13,17 +12,17 @@ use s10_book::Book;
 ///
 /// The calls that are committed at the end give every reply that was sent in any of the batches.
 pub fn batches_compose<B: Book>()
-    ensures { (given : Option ℕ) (old new : Trace × B) (batches : List (List Turn))
+    ensures { (old new : Trace × B) (batches : List DatedBatch)
         (lead : BatchesLead (IsBatch B.faults B.honest B.terms B.history B.committed B.clean
-        B.may_find given) old
+        B.may_find) old
         batches new)
         → B.honest new.1 → ServesAll B.faults B.honest B.terms B.history B.committed B.clean
         B.may_find old.1 new.1
         (deliveries_in B.faults B.honest B.terms B.history B.committed B.clean B.may_find old new
-        batches given
+        batches
         lead)
         (answers_in B.faults B.honest B.terms B.history B.committed B.clean B.may_find old new
-        batches given lead)
+        batches lead)
         (turns_in batches) }
 {}
 
@@ -33,6 +32,6 @@ pub fn batches_compose<B: Book>()
 /// What it finds is a beginning of what some of the requests that arrived give. The store must be
 /// clean at the end.
 pub fn batches_survive_stops<B: Book>()
-    ensures { (given : Option ℕ) (old new : Trace × B) → SurvivesStop B.faults B.honest B.terms
-        B.history B.committed B.clean B.may_find given old new }
+    ensures { (old new : Trace × B) → SurvivesStop B.faults B.honest B.terms
+        B.history B.committed B.clean B.may_find old new }
 {}

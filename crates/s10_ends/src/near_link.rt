@@ -1,6 +1,7 @@
 //! Links a client to a server in the same process.
 
 ghost use Rattle.std.specs.Prelude.{◌≡◌};
+ghost use Rattle.s10_link.specs.Link.{LeadsTo};
 ghost use Rattle.s10_ends.specs.Server.{book_of};
 ghost use Rattle.s10_ends.specs.Turn.{Turn, ServesOne, StaysWhole};
 
@@ -45,6 +46,7 @@ fn serve_far<B: Book, F: Link>(server: &mut Server<B>, far: &mut F, day: u32)
         (F.trace_of far.old, book_of server.old) (F.trace_of far.new, book_of server.new) turn }
     ensures whole { StaysWhole B.honest B.history B.committed (book_of server.old)
         (book_of server.new) }
+    ensures led { LeadsTo F.step far.old far.new }
 {
     let _ = serve_one(server, far, day);
 }
@@ -57,7 +59,7 @@ impl<B: Book, F: Link, N: Link> Link for NearLink<B, F, N> {
 
     ghost step = { IsNearStep B.faults B.honest B.terms B.history B.committed B.clean B.may_find
         F.trace_of
-        N.trace_of };
+        N.trace_of F.step };
 
     fn receive(&mut self) -> Result<Option<(Peer, Packet)>, LinkFault>
         ensures trace { Receives (N.trace_of self.old.near) (N.trace_of self.new.near) result }
@@ -75,7 +77,7 @@ impl<B: Book, F: Link, N: Link> Link for NearLink<B, F, N> {
         ensures day { self.new.day ≡ self.old.day }
         ensures step { IsNearStep B.faults B.honest B.terms B.history B.committed B.clean B.may_find
             F.trace_of
-            N.trace_of self.old self.new }
+            N.trace_of F.step self.old self.new }
     {
         serve_far(&mut self.server, &mut self.far, self.day);
         self.near.receive()
@@ -97,7 +99,7 @@ impl<B: Book, F: Link, N: Link> Link for NearLink<B, F, N> {
         ensures day { self.new.day ≡ self.old.day }
         ensures step { IsNearStep B.faults B.honest B.terms B.history B.committed B.clean B.may_find
             F.trace_of
-            N.trace_of self.old self.new }
+            N.trace_of F.step self.old self.new }
     {
         serve_far(&mut self.server, &mut self.far, self.day);
         self.near.try_receive()
@@ -109,7 +111,7 @@ impl<B: Book, F: Link, N: Link> Link for NearLink<B, F, N> {
         ensures same { self.new ≡ record self.old { near = self.new.near } }
         ensures step { IsNearStep B.faults B.honest B.terms B.history B.committed B.clean B.may_find
             F.trace_of
-            N.trace_of self.old self.new }
+            N.trace_of F.step self.old self.new }
     {
         self.near.send(to, frame)
     }

@@ -1,6 +1,7 @@
 //! Receives the datagrams of a server and handles them, without sending a reply.
 
 ghost use Rattle.std.specs.Prelude.{◌≡◌, ◌≤◌, [], length, vec_capacity};
+ghost use Rattle.s10_link.specs.Link.{LeadsTo};
 ghost use Rattle.s10_ends.specs.Server.{book_of};
 ghost use Rattle.s10_ends.specs.Turn.{Handles, Takes};
 ghost use Rattle.s10_ends.specs.Batch.{ReceivesBatch, is_reply as is_a_reply};
@@ -23,6 +24,7 @@ pub(crate) fn take<B: Book, L: Link>(
     ensures whole { B.durable → B.honest (book_of server.new) → B.committed (book_of server.old)
         ≡ B.history (book_of server.old) → B.committed (book_of server.new)
         ≡ B.history (book_of server.new) }
+    ensures led { LeadsTo L.step link.old link.new }
 {
     let Some((from, packet)) = link.receive()? else {
         return Ok(None);
@@ -41,9 +43,10 @@ fn try_handle_next<B: Book, L: Link>(
     link: &mut L,
     day: u32,
 ) -> Result<Option<Exchange>, LinkFault>
-    ensures { Takes (λ before after b answer. Handles B.faults B.honest B.terms B.history
+    ensures takes { Takes (λ before after b answer. Handles B.faults B.honest B.terms B.history
         B.committed B.clean B.may_find before after day b answer)
         (L.trace_of link.old, book_of server.old) (L.trace_of link.new, book_of server.new) result }
+    ensures led { LeadsTo L.step link.old link.new }
 {
     let Some((from, packet)) = link.try_receive()? else {
         return Ok(None);
@@ -83,6 +86,7 @@ pub(crate) fn receive_batch<B: Book, L: Link>(
         B.history B.committed B.clean B.may_find before after day b answer) most
         (L.trace_of link.old, book_of server.old) (L.trace_of link.new, book_of server.new)
         taken.new.items result }
+    ensures led { LeadsTo L.step link.old link.new }
 {
     let Some(first) = take(server, link, day)? else {
         return Ok(());

@@ -1,6 +1,7 @@
 //! Sends the replies to the datagrams that a server received.
 
 ghost use Rattle.std.specs.Prelude.{◌≡◌, ◌≤◌, ◌+◌, [], ⊤, length, vec_capacity, Ok};
+ghost use Rattle.s10_link.specs.Link.{LeadsTo};
 ghost use Rattle.s10_ends.specs.Server.{book_of};
 ghost use Rattle.s10_ends.specs.Turn.{Answers, AsksCommitted, SendsReply, SendsCommitted};
 ghost use Rattle.s10_ends.specs.Batch.{AnswersAll};
@@ -20,10 +21,11 @@ pub(crate) fn answer<B: GroupCommit, L: Link>(
     taken: &Exchange,
     commit_result: Result<(), BookFault>,
 ) -> Turn
-    ensures { Answers (B.honest (book_of server.now))
+    ensures answers { Answers (B.honest (book_of server.now))
         (AsksCommitted (B.committed (book_of server.now)) (B.history (book_of server.now)))
         (L.trace_of link.old) (L.trace_of link.new) commit_result taken.now.from taken.now.packet
         taken.now.answer result }
+    ensures led { LeadsTo L.step link.old link.new }
 {
     match taken.answer {
         Answer::Reply(frame) => send_committed(link, server, taken, frame, commit_result),
@@ -34,8 +36,9 @@ pub(crate) fn answer<B: GroupCommit, L: Link>(
 
 // Sends the reply to a datagram whose call is committed, if it has one.
 pub(crate) fn answer_committed<L: Link>(link: &mut L, taken: &Exchange) -> Turn
-    ensures { Answers ⊤ (λ b. ⊤) (L.trace_of link.old) (L.trace_of link.new) (Ok tt) taken.now.from
-        taken.now.packet taken.now.answer result }
+    ensures answers { Answers ⊤ (λ b. ⊤) (L.trace_of link.old) (L.trace_of link.new) (Ok tt)
+        taken.now.from taken.now.packet taken.now.answer result }
+    ensures led { LeadsTo L.step link.old link.new }
 {
     match taken.answer {
         Answer::Reply(frame) => send(link, taken.from, frame),
@@ -52,10 +55,11 @@ fn send_committed<B: GroupCommit, L: Link>(
     frame: Frame,
     commit_result: Result<(), BookFault>,
 ) -> Turn
-    ensures { SendsCommitted (B.honest (book_of server.now))
+    ensures sends { SendsCommitted (B.honest (book_of server.now))
         (AsksCommitted (B.committed (book_of server.now)) (B.history (book_of server.now)))
         (L.trace_of link.old) (L.trace_of link.new) commit_result taken.now.from taken.now.packet
         frame result }
+    ensures led { LeadsTo L.step link.old link.new }
 {
     match commit_result {
         Err(fault) if !server.is_committed(taken.packet.bytes()) => {
@@ -66,7 +70,8 @@ fn send_committed<B: GroupCommit, L: Link>(
 }
 
 fn send<L: Link>(link: &mut L, to: Peer, frame: Frame) -> Turn
-    ensures { SendsReply (L.trace_of link.old) (L.trace_of link.new) to frame result }
+    ensures sends { SendsReply (L.trace_of link.old) (L.trace_of link.new) to frame result }
+    ensures led { LeadsTo L.step link.old link.new }
 {
     link.send(to, &frame)?;
     Ok(ServerTurn::Replied(to, frame))
@@ -87,6 +92,7 @@ pub(crate) fn reply_all<B: GroupCommit, L: Link>(
         commit_result (L.trace_of link.old) taken.now turns.new.items (L.trace_of link.new) }
     ensures many { length turns.new.items ≡ length taken.now }
     ensures capacity { vec_capacity turns.new ≡ vec_capacity turns.old }
+    ensures led { LeadsTo L.step link.old link.new }
 {
     for next in taken {
         let turn = answer(link, server, next, commit_result);

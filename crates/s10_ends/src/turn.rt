@@ -1,6 +1,7 @@
 //! Serves one datagram on a link.
 
 ghost use Rattle.std.specs.Prelude.{◌≡◌, ◌∷◌, []};
+ghost use Rattle.s10_link.specs.Link.{LeadsTo};
 ghost use Rattle.s10_ends.specs.Server.{book_of};
 ghost use Rattle.s10_ends.specs.Turn.{ServesOne};
 ghost use Rattle.s10_ends.specs.Batch.{ServesBatch, IsSentCommitted, ReceivesAtMost};
@@ -41,6 +42,7 @@ pub fn serve_one<B: Book, L: Link>(server: &mut Server<B>, link: &mut L, day: u3
     ensures stands { B.honest (book_of server.new) → B.committed (book_of server.old)
         ≡ B.history (book_of server.old) → IsSentCommitted (B.committed (book_of server.new))
         result }
+    ensures led { LeadsTo L.step link.old link.new }
 {
     let Some(taken) = take(server, link, day)? else {
         return Ok(ServerTurn::Quiet);
@@ -69,6 +71,7 @@ pub fn serve_batch_of_one<B: GroupCommit, L: Link>(
     ensures stands { B.honest (book_of server.new)
         → IsSentCommitted (B.committed (book_of server.new)) result }
     ensures receives { ReceivesAtMost 1 (L.trace_of link.old) (L.trace_of link.new) (result ∷ []) }
+    ensures led { LeadsTo L.step link.old link.new }
 {
     let Some(taken) = take(server, link, day)? else {
         return Ok(ServerTurn::Quiet);

@@ -1,8 +1,9 @@
 //! Links the two ends over a UDP socket.
 
-ghost use Rattle.std.specs.Prelude.{◌≡◌};
+ghost use Rattle.std.specs.Prelude.{◌≡◌, ◌↔◌, IsTrue};
 ghost use Rattle.std.specs.Net.Addr.{ipv4_octets};
 ghost use Rattle.std.specs.Net.Socket.{v4_ip, v4_port};
+ghost use Rattle.s10_ends.specs.UdpLink.{IsBoundAt};
 
 use s10_link::{Link, LinkFault, Packet, Peer, Trace};
 use s10_wire::Frame;
@@ -38,6 +39,7 @@ impl UdpLink {
     ghost use Rattle.std.specs.Prelude.{◌≡◌, ◌-◌, ◌^◌, ◌<◌, IfOk, IfErr};
     ghost use Rattle.s10_link.specs.Trace.{new_trace};
     ghost use Rattle.s10_link.specs.Link.{Receives};
+    ghost use Rattle.s10_ends.specs.UdpLink.{IsBoundAt};
 
     /// Binds a socket to the address `at`; with port 0 the system picks a port.
     ///
@@ -45,16 +47,17 @@ impl UdpLink {
     ///
     /// # Errors
     ///
-    /// `Bind` if the address cannot be bound, or if the socket's wait or address cannot be set or
-    /// read.
+    /// `Bind` if the address cannot be bound, if the system bound another one, or if the socket's
+    /// wait or address cannot be set or read.
     pub fn bind<N: Net>(net: &N, at: Peer, wait_ms: u32) -> Result<UdpLink, LinkFault>
         ensures ok { IfOk result (λ link. link.trace ≡ new_trace) }
+        ensures at { IfOk result (λ link. IsBoundAt at link.at) }
         ensures refused { IfErr result (λ fault. fault ≡ LinkFault.Bind) }
     {
         match bound_socket(net, at, wait_ms) {
-            Ok((socket, SocketAddr::V4(at))) => Ok(UdpLink {
+            Ok((socket, SocketAddr::V4(bound))) if is_as_asked(at, peer_of(bound)) => Ok(UdpLink {
                 socket,
-                at: peer_of(at),
+                at: peer_of(bound),
                 trace: Trace::new(),
             }),
             _ => Err(LinkFault::Bind),
@@ -180,6 +183,13 @@ fn bound_socket<N: Net>(net: &N, at: Peer, wait_ms: u32) -> io::Result<(UdpSocke
     socket.set_read_timeout(Some(wait))?;
     let at = socket.local_addr()?;
     Ok((socket, at))
+}
+
+// Returns whether a socket that was asked for at one address is bound there.
+fn is_as_asked(asked: Peer, bound: Peer) -> bool
+    ensures { IsTrue result ↔ IsBoundAt asked bound }
+{
+    bound.ip == asked.ip && (asked.port == 0 || bound.port == asked.port)
 }
 
 fn address(peer: Peer) -> SocketAddrV4

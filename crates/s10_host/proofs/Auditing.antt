@@ -17,11 +17,15 @@ pub found_calls : {S : Type 0} (g : Ghosts S) (before closed : Held S) (book : L
     → (IsHonest g book → IsClosedSchema (state g before).now.schema → (state g book.conn).now
     ≡ (state g before).now) → (IsHonest g book → history_in (state g book.conn).now
     ≡ history_in (state g before).now) → WasSound g before book.conn → book.pending ≡ []
-    → (IsHonest g book → count ≡ length (history_of g book)) → HasFound g before closed (Ok count)
-found_calls g before closed book count same opened honest ledger shows history sound none counts =
+    → (IsHonest g book → count ≡ length (history_of g book))
+    → (IsHonest g book → (state g book.conn).committed ≡ (state g book.conn).now)
+    → HasFound g before closed (Ok count)
+found_calls g before closed book count same opened honest ledger shows history sound none counts
+    committed =
     let found : HasFound g before book.conn (Ok count) = record {
       sound = sound;
       opened = opened;
+      committed = λ clean live. committed (honest clean live);
       finding = λ clean live.
           let kept = honest clean live in
           record {

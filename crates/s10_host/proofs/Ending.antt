@@ -1,9 +1,9 @@
 -- How a job ends, and what it prints.
 use denote.RattleType.{RattleType}
-use Rattle.std.proofs.Common.{◌≡◌, ◌∙◌, inl, inr, ℕ, Bool, List, [], ◌∷◌, Option, Some, None}
+use Rattle.std.proofs.Common.{◌≡◌, ◌≢◌, ◌⊎◌, ◌∙◌, inl, inr, ℕ, Bool, List, [], ◌∷◌, Option, Some, None}
 use Rattle.std.proofs.Common.{Result, Ok, Err, refl, sym, subst, true, false, ◌++◌}
 use Rattle.std.proofs.KnownBytes.{Appends-trans}
-use Rattle.std.specs.Prelude.{IfOk, IfErr, IfSome, IsOk, OnErr, codes}
+use Rattle.std.specs.Prelude.{IfOk, IfErr, IfSome, IsOk, OnErr, codes, option_map}
 use Rattle.std.specs.Io.KnownBytes.{Appends}
 use Rattle.sqlite_disk.specs.declared.Disk as disk
 use Rattle.sqlite_disk.specs.declared.Files.{Files}
@@ -11,7 +11,7 @@ use Rattle.sqlite_disk.specs.declared.start.Start.{Ghosts}
 use Rattle.sqlite_wal.specs.Files.{image_at}
 use Rattle.sqlite_store.specs.declared.store.FileStore.{FileStore}
 use Rattle.sqlite.specs.Held.{Held}
-use Rattle.sqlite.specs.Files.{over_files}
+use Rattle.sqlite.specs.Files.{over_files, file_state}
 use Rattle.s10_lines.specs.declared.write_fault.WriteFault.{WriteFault}
 use Rattle.s10_lines.specs.Lines.{line_of}
 use Rattle.s10_link.specs.declared.peer.Peer.{Peer}
@@ -35,19 +35,26 @@ use Rattle.s10_host.specs.declared.loop_resources.LoopResources.{LoopResources}
 use Rattle.s10_sockets.specs.Unbound.{IsUnbound}
 use Rattle.s10_host.specs.Files.{FileConnection, FileLedger, ClosedFiles, Copies, ClosesInto}
 use Rattle.s10_host.specs.Files.{IsFoundIn, IsFileFault, IsAbsenceOr, IsNotMade, IsNotOpened}
-use Rattle.s10_host.specs.Files.{LeavesClean}
+use Rattle.s10_host.specs.Files.{LeavesClean, AreFilesOf, KeepsRefused}
 use Rattle.s10_host.specs.Audited.{HasFound, audit_line, audit_status}
 use Rattle.s10_host.specs.Closing.{IsClosedAs, Turns}
 use Rattle.s10_host.specs.Jobs.{ledger_line, FailsByLedger, FailsByClosing, EndsAs, IsAskedFor}
-use Rattle.s10_host.specs.Jobs.{HasCreated, EndsServed}
-use Rattle.s10_host.specs.Jobs.{IsServed, IsUnlinked, Writes, IsReported, HasServed, HasReported}
+use Rattle.s10_host.specs.Jobs.{HasMadeLedger, HasCreated, EndsServed, IsRefusedIn, IsUnopened}
+use Rattle.s10_host.specs.Jobs.{IsServed, IsUnlinked, Writes, IsReported, IsReportOf, HasServed}
+use Rattle.s10_host.specs.Jobs.{HasReported}
 use Rattle.s10_host.specs.Jobs.{HasAudited, HasEnded}
 use Rattle.s10_host.specs.declared.book_job.BookJob.TheVariants.{Create, Serve, Report as ReportOn}
 use Rattle.s10_host.specs.declared.book_job.BookJob.{BookJob}
 use Rattle.s10_host.specs.declared.ledger_job.LedgerJob.{LedgerJob}
 use Rattle.s10_host.specs.declared.ledger_job.LedgerJob.TheVariants.{BookJob as AsksFor, Audit}
-use Rattle.s10_host.specs.BookJobs.{IsBookJobRefusal, EndsOver, EndsIn}
+use Rattle.s10_host.specs.BookJobs.{IsRefusedAs, EndsOver, EndsIn}
+use Rattle.s10_jobs.specs.Days.{IsTaken}
+use Rattle.sqlite.specs.Effect.{Database}
+use Rattle.s10_statements.specs.ConnectionState.{IsOpen}
+use Rattle.s10_statements.specs.Creating.{IsCreateRefusal}
+use Rattle.s10_ledger.specs.Refusals.{IsOpeningRefusal}
 use Rattle.s10_host.proofs.Opening.{empty_book, found_book, closed_into, still_none, calls_all}
+use Rattle.s10_host.proofs.Opening.{all_kept_refused}
 
 -- A job over a ledger has one job on the book.
 pub asked_alike : (task : LedgerJob) (work same : BookJob) → task ≡ AsksFor work
@@ -86,35 +93,41 @@ fails_weaker Is Was gives done old new (Ok status) (well, (failed, fault, is, wr
     (failed, fault, gives fault is, written)
 fails_weaker Is Was gives done old new (Err e) says = tt
 
-pub asked_for : (is_of_issues : Bool) (day : Option ℕ) (made : Option Report) (report : Report)
-    → made ≡ Some report
-    → (is_of_issues ≡ true → made ≡ Some Issues) → ((d : ℕ) → is_of_issues ≡ false → day ≡ Some d
-    → made ≡ Some (Ranges d))
-    → (is_of_issues ≡ false → IfSome made (λ r. (d : ℕ) × (r ≡ Ranges d)))
-    → IsAskedFor is_of_issues day report
-asked_for true day made report is issues ranges some =
-    record { issues = λ so. let one = issues so in cc; ranges = λ so. absurd cc }
-asked_for false day None report is issues ranges some = absurd cc
-asked_for false day (Some r) report is issues ranges some =
-    let found = some refl in
-    let of_day : report ≡ Ranges found.0 = let one = found.1 in cc in
-    record {
-      issues = λ so. absurd cc;
-      ranges = λ so. (
-        found.0,
-        of_day,
-        λ d given. let one = ranges d refl given in
-            let other = found.1 in cc,
-      );
-    }
+module _ {C : Type 0} (gives : C → Option ℕ → C → Type 0) (day : Option ℕ) (begun ended : C) where
+  -- What was made of a day that was taken, or of none.
+  abbrev pub Made : Option Report → Type 0
+  Made made = (taken : Option ℕ) × IsTaken gives day taken begun ended
+      × (made ≡ option_map (λ (d : ℕ). Ranges d) taken)
 
--- There is no report only if one of ranges was asked for and no day was given.
-pub no_report : (is_of_issues : Bool) (day : Option ℕ) (made : Option Report) → made ≡ None
-    → (is_of_issues ≡ true → made ≡ Some Issues) → ((d : ℕ) → is_of_issues ≡ false → day ≡ Some d
-    → made ≡ Some (Ranges d)) → (is_of_issues ≡ false) × (day ≡ None)
-no_report true day made is issues ranges = absurd (let one = issues refl in cc)
-no_report false None made is issues ranges = (refl, refl)
-no_report false (Some d) made is issues ranges = absurd (let one = ranges d refl refl in cc)
+  ranges_on : (made : Option Report) (report : Report) → made ≡ Some report → Made made
+      → (d : ℕ) × (report ≡ Ranges d) × IsTaken gives day (Some d) begun ended
+  ranges_on made report is (Some d, taken, so) = (d, cc, taken)
+  ranges_on made report is (None, taken, so) = absurd cc
+
+  pub asked_for : (is_of_issues : Bool) (made : Option Report) (report : Report)
+      → made ≡ Some report → (is_of_issues ≡ true → (made ≡ Some Issues) × (ended ≡ begun))
+      → (is_of_issues ≡ false → Made made)
+      → IsAskedFor gives is_of_issues day begun ended report
+  asked_for true made report is issues ranges = record {
+    issues = λ so. let one = issues so in (cc, one.1);
+    ranges = λ so. absurd cc;
+  }
+  asked_for false made report is issues ranges = record {
+    issues = λ so. absurd cc;
+    ranges = λ so. ranges_on made report is (ranges so);
+  }
+
+  no_taken : (made : Option Report) → made ≡ None → Made made → IsTaken gives day None begun ended
+  no_taken made is (None, taken, so) = taken
+  no_taken made is (Some d, taken, so) = absurd cc
+
+  -- There is no report only if one of ranges was asked for and there is no day.
+  pub no_report : (is_of_issues : Bool) (made : Option Report) → made ≡ None
+      → (is_of_issues ≡ true → (made ≡ Some Issues) × (ended ≡ begun))
+      → (is_of_issues ≡ false → Made made)
+      → (is_of_issues ≡ false) × IsTaken gives day None begun ended
+  no_report true made is issues ranges = absurd (let one = (issues refl).0 in cc)
+  no_report false made is issues ranges = (refl, no_taken made is (ranges refl))
 
 -- If no call was pending, a job ends as it was done.
 pub as_done : (committed : Result (Unit {0}) BookFault) (done result : Result JobStatus WriteFault)
@@ -145,75 +158,115 @@ module _ {D : Type 0} {g : disk.Ghosts D} where
   kept_copied closed put (Some f) committed done result new last copied (is, ends) =
       (subst (λ r. IfOk r (Copies closed)) is copied, ends)
 
-  pub refused_over : (work : BookJob) (was left : Held (FileStore D g))
-      (old between new : Option (List ℕ)) (fault named : OpenFault)
-      (printed result : Result JobStatus WriteFault) (files : Option (Files D))
-      (link : Option BoundLink)
-      → IsBookJobRefusal over_files work was left fault → named ≡ fault → between ≡ old
-      → IfOk printed (λ status. (status ≡ Failed) × Appends between new (ledger_line named))
-      → result ≡ printed → files ≡ None → link ≡ None → EndsOver work was old new result files link
-  refused_over work was left old between new fault named printed result files link refusal is still
-      says same no_files no_link =
-      let Told : Option (List ℕ) → OpenFault → Result JobStatus WriteFault → Type 0 =
-      λ text f r. IfOk r (λ status. (status ≡ Failed) × Appends text new (ledger_line f)) in
+  pub refused_over : {C : Type 0} (gives : C → Option ℕ → C → Type 0) (work : BookJob)
+      (begun ended : C) (was left : Held (FileStore D g)) (old between new : Option (List ℕ))
+      (fault : OpenFault) (result : Result JobStatus WriteFault) (files : Option (Files D))
+      → IsRefusedAs over_files work was left fault → between ≡ old
+      → IfOk result (λ status. (status ≡ Failed) × Appends between new (ledger_line fault))
+      → IfSome files (Copies left)
+      → (IsOpen over_files left → (file_state left).committed ≡ (file_state left).now)
+      → EndsOver gives work begun ended was old new result files None
+  refused_over gives work begun ended was left old between new fault result files refused still says
+      copies committed =
       inr (record {
         fault = fault;
         left = left;
-        refusal = refusal;
-        printed = subst (λ text. Told text fault result) still (subst (λ f. Told between f result)
-            is (subst (λ r. Told between named r) (sym same) says));
-        no_files = no_files;
-        no_link = no_link;
+        refusal = refused.refusal;
+        printed = subst (λ text. IfOk result (λ status. (status ≡ Failed)
+            × Appends text new (ledger_line fault))) still says;
+        kept = all_kept_refused work was left fault files refused committed copies;
+        no_link = refl;
       })
 
 module _ (S : RattleType) (first : Ghosts S.Denot) where
+  -- A refusal of the database in the files, from that over their connection.
+  refused_in : (Refuses : OpenFault → Database → Type 0) (was : FileConnection S first)
+      (fault : OpenFault) (old new : Option (List ℕ)) (result : Result JobStatus WriteFault)
+      (f : ClosedFiles S first) → IsFoundIn (image_at first) was
+      → IfOk result (λ status. (status ≡ Failed) × Appends old new (ledger_line fault))
+      → KeepsRefused was (Refuses fault) f → IsRefusedIn S first Refuses old new result f
+  refused_in Refuses was fault old new result f found printed kept = record {
+    fault = fault;
+    printed = printed;
+    kept = λ clean. let holds = kept clean in (was, found holds.sound, holds);
+  }
+
+  -- A job that is done has not failed.
+  not_failed : {A : Type 0} (P : JobStatus → Type 0) (done : Result JobStatus WriteFault)
+      → done ≡ Ok Done → IfOk done (λ status. (status ≡ Failed) × P status) → A
+  not_failed P (Ok status) is says = absurd (let one = says.0 in cc)
+  not_failed P (Err fault) is says = absurd cc
+
+  -- A ledger that could not be closed was not created.
+  not_lost : {A : Type 0} (done result : Result JobStatus WriteFault) (old new : Option (List ℕ))
+      → result ≡ Ok Done → FailsByClosing done old new result → A
+  not_lost done (Ok status) old new is says = absurd (let one = says.1.0 in cc)
+  not_lost done (Err fault) old new is says = absurd cc
+
   -- A ledger that was created and closed, after which `created` was printed.
-  pub created : (terms : Terms) (was : FileConnection S first) (old between new : Option (List ℕ))
+  pub created : {C : Type 0} (gives : C → Option ℕ → C → Type 0) (terms : Terms) (begun ended : C)
+      (was : FileConnection S first) (old between new : Option (List ℕ))
       (done printed : Result JobStatus WriteFault) (files : Option (ClosedFiles S first))
-      (link : Option BoundLink) (f : ClosedFiles S first)
-      → files ≡ Some f → EndsOver (Create terms) was old between done files link
+      (link : Option BoundLink) → IsFoundIn (image_at first) was → done ≡ Ok Done
+      → EndsOver gives (Create terms) begun ended was old between done files link
       → IfOk printed (λ status. (status ≡ Done) × Appends between new (codes "created\n"))
       → HasCreated S first terms old new printed files
-  created terms was old between new done printed None link f is ends written = absurd cc
-  created terms was old between new done printed (Some g) link f is (inr refused) written =
-      absurd (let none = refused.no_files in cc)
-  created terms was old between new done printed (Some g) link f is (inl over) written =
+  created gives terms begun ended was old between new done printed files link found is (inr refused)
+      written = not_failed _ done is refused.printed
+  created gives terms begun ended was old between new done printed None link found is (inl over)
+      written = not_lost over.done done over.between between is (over.lost refl)
+  created gives terms begun ended was old between new done printed (Some f) link found is (inl over)
+      written =
       let (book, new_book, put, result, still, none) = over.worked in
       let (copies, ends) = over.kept in
       let never = put.none_pending new_book.none_pending in
       let (same, last) = as_done over.committed over.done done over.between between never ends in
+      let made : HasMadeLedger S first terms f = record {
+        book = book;
+        settings = new_book.settings;
+        empty = empty_book (image_at first) terms was book found new_book;
+        closes_into = closed_into book over.closed over.committed [] f put
+            (λ clean opened. calls_all over_files book over.closed over.committed put never clean
+            opened ∙ new_book.empty (put.honest clean opened)) copies;
+      } in
       record {
-        made = record {
-          book = book;
-          settings = new_book.settings;
-          empty = empty_book terms book new_book;
-          closes_into = closed_into book over.closed over.committed [] g put
-              (λ clean opened. calls_all over_files book over.closed over.committed put never clean
-              opened ∙ new_book.empty (put.honest clean opened)) copies;
-        };
-        printed = subst (λ text. IfOk printed (λ status. (status ≡ Done)
-            × Appends text new (codes "created\n"))) (last ∙ still) written;
+        closed = inl (
+          made,
+          subst (λ text. IfOk printed (λ status. (status ≡ Done)
+              × Appends text new (codes "created\n"))) (last ∙ still) written,
+        );
         refused = λ gone. absurd cc;
       }
 
   -- A ledger that was refused, or could not be closed.
-  pub not_created : (terms : Terms) (was : FileConnection S first) (old new : Option (List ℕ))
+  pub not_created : {C : Type 0} (gives : C → Option ℕ → C → Type 0) (terms : Terms)
+      (begun ended : C) (was : FileConnection S first) (old new : Option (List ℕ))
       (result : Result JobStatus WriteFault) (files : Option (ClosedFiles S first))
-      (link : Option BoundLink)
-      → files ≡ None → IsFoundIn (image_at first) was → EndsOver (Create terms) was old new result
-      files link → HasCreated S first terms old new result files
-  not_created terms was old new result (Some f) link none found ends = absurd cc
-  not_created terms was old new result None link none found (inr refused) = record {
-    made = tt;
-    printed = tt;
-    refused = λ _. fails_by (IsNotMade S first) refused.fault old new result
-        (inr (record { was = was; found = found; refusal = refused.refusal })) refused.printed;
-  }
-  not_created terms was old new result None link none found (inl over) =
+      (link : Option BoundLink) → result ≢ Ok Done → IsFoundIn (image_at first) was
+      → EndsOver gives (Create terms) begun ended was old new result files link
+      → HasCreated S first terms old new result files
+  not_created gives terms begun ended was old new result (Some f) link undone found (inr refused) =
+      record {
+        closed = inr (refused_in (λ fault db. IsCreateRefusal db.schema fault) was refused.fault old
+            new result f found refused.printed refused.kept);
+        refused = λ gone. absurd cc;
+      }
+  not_created gives terms begun ended was old new result (Some f) link undone found (inl over) =
+      let (book, new_book, put, done, still, none) = over.worked in
+      let never = put.none_pending new_book.none_pending in
+      let (same, last) = as_done over.committed over.done result over.between new never
+      over.kept.1 in
+      absurd (undone (same ∙ done))
+  not_created gives terms begun ended was old new result None link undone found (inr refused) =
+      record {
+        closed = tt;
+        refused = λ _. fails_by (IsNotMade S first) refused.fault old new result
+            (inr (record { was = was; found = found; refusal = refused.refusal })) refused.printed;
+      }
+  not_created gives terms begun ended was old new result None link undone found (inl over) =
       let (book, new_book, put, done, still, no_link) = over.worked in
       record {
-        made = tt;
-        printed = tt;
+        closed = tt;
         refused = λ _. fails_weaker (λ fault. fault ≡ Store) (IsNotMade S first)
             (λ fault is. inl (inr is)) over.done old new result
             (subst (λ text. FailsByClosing over.done text new result) still (over.lost refl));
@@ -227,8 +280,7 @@ module _ (S : RattleType) (first : Ghosts S.Denot) where
       → result ≡ printed → files ≡ None → HasCreated S first terms old new result files
   not_connected terms fault old new printed result (Some f) is says same none = absurd cc
   not_connected terms fault old new printed result None is says same none = record {
-    made = tt;
-    printed = tt;
+    closed = tt;
     refused = λ _. fails_by (IsNotMade S first) fault old new result (inl is)
         (subst (λ r. IfOk r (λ status. (status ≡ Failed) × Appends old new (ledger_line fault)))
         (sym same) says);
@@ -244,11 +296,13 @@ module _ (S : RattleType) (first : Ghosts S.Denot) where
       (failed, fault, inr (inl is), written)
   absent_or_refused old new (Err e) printed = tt
 
-  was_honest : (day : Option ℕ) (count : ℕ) (old new : Option (List ℕ))
+  was_honest : {C : Type 0} (gives : C → Option ℕ → C → Type 0) (day : Option ℕ) (begun ended : C)
+      (count : ℕ) (old new : Option (List ℕ))
       (opened after : FileLedger S first) (result : Result JobStatus WriteFault) (link : BoundLink)
-      → Turns over_files day count opened after old new result link → IsHonest over_files after
-      → IsHonest over_files opened
-  was_honest day count old new opened after result link turns h = (turns.composed h).was_honest
+      → Turns over_files gives day begun ended count opened after old new result link
+      → IsHonest over_files after → IsHonest over_files opened
+  was_honest gives day begun ended count old new opened after result link turns h =
+      (turns.composed h).was_honest
 
   -- Which calls the files of a served ledger hold.
   ends_served : (served : FileLedger S first) (closed : FileConnection S first)
@@ -271,23 +325,24 @@ module _ (S : RattleType) (first : Ghosts S.Denot) where
             put.left copies,
       )
 
-  served_away : (day : Option ℕ) (count : ℕ) (old new last : Option (List ℕ))
+  served_away : {C : Type 0} (gives : C → Option ℕ → C → Type 0) (day : Option ℕ) (begun ended : C)
+      (count : ℕ) (old new last : Option (List ℕ))
       (opened served : FileLedger S first) (closed : FileConnection S first)
       (committed : Result (Unit {0}) BookFault) (done result : Result JobStatus WriteFault)
       (files : Option (ClosedFiles S first)) (link : BoundLink)
-      → Turns over_files day count opened served old new done link
+      → Turns over_files gives day begun ended count opened served old new done link
       → IsClosedAs over_files served closed committed
       → IfSome files (λ f. Copies closed f × EndsAs committed done new last result)
-      → IfSome files (IsServed S first opened day count old last result link)
-  served_away day count old new last opened served closed committed done result None link turns put
+      → IfSome files (IsServed S first gives opened day begun ended count old last result link)
+  served_away gives day begun ended count old new last opened served closed committed done result None link turns put
       kept = tt
-  served_away day count old new last opened served closed committed done result (Some f) link turns
+  served_away gives day begun ended count old new last opened served closed committed done result (Some f) link turns
       put (copies, ends) = record {
         served = served;
         turned = done;
         between = new;
         turns = turns;
-        was_honest = was_honest day count old new opened served done link turns;
+        was_honest = was_honest gives day begun ended count old new opened served done link turns;
         ends = ends_served served closed committed f done result new last put copies ends;
       }
 
@@ -346,53 +401,71 @@ module _ (S : RattleType) (first : Ghosts S.Denot) where
       }
 
   -- How the turns over existing files ended.
-  served_over : (bind : List ℕ) (at : Peer) (day : Option ℕ) (count : ℕ)
-      (was : FileConnection S first) (old new : Option (List ℕ))
-      (result : Result JobStatus WriteFault) (files : Option (ClosedFiles S first))
-      (link : Option BoundLink)
-      → IsPeerText bind → IsFoundIn (image_at first) was → EndsOver (Serve at count day) was old new
-      result files link → HasServed S first bind day count old new result files link
-  served_over bind at day count was old new result files None text found (inr refused) = record {
-    served = tt;
-    unlinked = λ _. inr (inl (
-      text,
-      fails_by (IsNotOpened S first) refused.fault old new result
-          (inr (inr (record {
-            was = was;
-            found = found;
-            left = refused.left;
-            refusal = refused.refusal;
-          }))) refused.printed,
-    ));
-  }
-  served_over bind at day count was old new result files (Some l) text found (inr refused) =
-      absurd (let none = refused.no_link in cc)
-  served_over bind at day count was old new result files None text found (inl over) =
+  served_over : {C : Type 0} (gives : C → Option ℕ → C → Type 0) (bind : List ℕ) (at : Peer)
+      (day : Option ℕ) (begun ended : C) (count : ℕ) (was : FileConnection S first)
+      (old new : Option (List ℕ)) (result : Result JobStatus WriteFault)
+      (files : Option (ClosedFiles S first)) (link : Option BoundLink)
+      → SpellsPeer bind at → IsFoundIn (image_at first) was
+      → EndsOver gives (Serve at count day) begun ended was old new result files link
+      → HasServed S first gives bind day begun ended count old new result files link
+  served_over gives bind at day begun ended count was old new result None None text found
+      (inr refused) = record {
+        at = tt;
+        served = tt;
+        unlinked = λ _. inr (inl (
+          (at, text),
+          fails_by (IsNotOpened S first) refused.fault old new result
+              (inr (inr (record {
+                was = was;
+                found = found;
+                left = refused.left;
+                refusal = refused.refusal;
+              }))) refused.printed,
+        ));
+      }
+  served_over gives bind at day begun ended count was old new result (Some f) None text found
+      (inr refused) = record {
+        at = tt;
+        served = tt;
+        unlinked = λ _. inr (inl (
+          (at, text),
+          refused_in (λ fault db. IsOpeningRefusal db fault) was refused.fault old new result f
+              found refused.printed refused.kept,
+        ));
+      }
+  served_over gives bind at day begun ended count was old new result files (Some l) text found
+      (inr refused) = absurd (let none = refused.no_link in cc)
+  served_over gives bind at day begun ended count was old new result files None text found
+      (inl over) =
       let (opened, opening, served, put, unbound, turns) = over.worked in
       record {
+        at = tt;
         served = tt;
         unlinked = λ _. inr (inr (
-          text,
+          (at, text),
           opened,
           found_book (image_at first) was opened found opening,
           unlinked old over.between new opened served over.closed over.committed over.done result
               files opening.none_pending (unbound refl) put over.kept over.lost,
         ));
       }
-  served_over bind at day count was old new result files (Some l) text found (inl over) =
-      let (opened, opening, served, put, unbound, turns) = over.worked in
+  served_over gives bind at day begun ended count was old new result files (Some l) text found
+      (inl over) =
+      let (opened, opening, served, put, unbound, (bound, turns)) = over.worked in
       record {
+        at = (at, text, bound);
         served = (
           opened,
           found_book (image_at first) was opened found opening,
-          served_away day count old over.between new opened served over.closed over.committed
-              over.done result files l turns put over.kept,
+          served_away gives day begun ended count old over.between new opened served over.closed
+              over.committed over.done result files l turns put over.kept,
           λ none. record {
             served = served;
             turned = over.done;
             between = over.between;
             turns = turns;
-            was_honest = was_honest day count old over.between opened served over.done l turns;
+            was_honest = was_honest gives day begun ended count old over.between opened served
+                over.done l turns;
             printed = over.lost none;
           },
         );
@@ -400,58 +473,71 @@ module _ (S : RattleType) (first : Ghosts S.Denot) where
       }
 
   -- An address that does not read.
-  pub no_peer : (bind text : List ℕ) (day : Option ℕ) (count : ℕ) (old new : Option (List ℕ))
+  pub no_peer : {C : Type 0} (gives : C → Option ℕ → C → Type 0) (bind text : List ℕ)
+      (day : Option ℕ) (begun ended : C) (count : ℕ) (old new : Option (List ℕ))
       (printed result : Result JobStatus WriteFault) (files : Option (ClosedFiles S first))
       (link : Option BoundLink) (made : Option Peer)
       → made ≡ None → ((p : Peer) → SpellsPeer text p → made ≡ Some p) → text ≡ bind
       → IfOk printed (λ status. (status ≡ Refused)
       × Appends old new (refused_line (codes "peer" ∷ [])))
-      → result ≡ printed → link ≡ None → HasServed S first bind day count old new result files link
-  no_peer bind text day count old new printed result files link made none read same says is gone =
-      subst (HasServed S first bind day count old new result files) (sym gone) (record {
+      → result ≡ printed → link ≡ None → files ≡ None
+      → HasServed S first gives bind day begun ended count old new result files link
+  no_peer gives bind text day begun ended count old new printed result files link made none read
+      same says is gone no_files =
+      subst (HasServed S first gives bind day begun ended count old new result files) (sym gone)
+      (record {
+        at = tt;
         served = tt;
         unlinked = λ _. inl (
           λ peer. absurd
               (let some = read peer.0 (subst (λ t. SpellsPeer t peer.0) (sym same) peer.1) in
               cc),
+          no_files,
           subst (λ r. IfOk r (λ status. (status ≡ Refused)
               × Appends old new (refused_line (codes "peer" ∷ [])))) (sym is) says,
         );
       })
 
-  pub served_in : (bind : List ℕ) (at : Peer) (day : Option ℕ) (count : ℕ)
-      (old new : Option (List ℕ)) (result : Result JobStatus WriteFault)
-      (files : Option (ClosedFiles S first)) (link : Option BoundLink)
-      → IsPeerText bind → EndsIn S first (Serve at count day) old new result files link
-      → HasServed S first bind day count old new result files link
-  served_in bind at day count old new result files link text (inl (was, found, ends)) =
-      served_over bind at day count was old new result files link text found ends
-  served_in bind at day count old new result files None text (inr (printed, no_files, no_link)) =
+  unopened : (old new : Option (List ℕ)) (result : Result JobStatus WriteFault)
+      (files : Option (ClosedFiles S first))
+      → IfOk result (FailsByLedger (IsAbsenceOr IsFileFault) old new) → files ≡ None
+      → IsUnopened S first old new result files
+  unopened old new result None printed none = absent_or_refused old new result printed
+  unopened old new result (Some f) printed none = absurd cc
+
+  pub served_in : {C : Type 0} (gives : C → Option ℕ → C → Type 0) (bind : List ℕ) (at : Peer)
+      (day : Option ℕ) (begun ended : C) (count : ℕ) (old new : Option (List ℕ))
+      (result : Result JobStatus WriteFault) (files : Option (ClosedFiles S first))
+      (link : Option BoundLink) → SpellsPeer bind at
+      → EndsIn S first gives (Serve at count day) begun ended old new result files link
+      → HasServed S first gives bind day begun ended count old new result files link
+  served_in gives bind at day begun ended count old new result files link text
+      (inl (was, found, ends)) =
+      served_over gives bind at day begun ended count was old new result files link text found ends
+  served_in gives bind at day begun ended count old new result files None text
+      (inr (printed, no_files, no_link)) =
       record {
+        at = tt;
         served = tt;
-        unlinked = λ _. inr (inl (text, absent_or_refused old new result printed));
+        unlinked = λ _. inr (inl ((at, text), unopened old new result files printed no_files));
       }
-  served_in bind at day count old new result files (Some l) text
+  served_in gives bind at day begun ended count old new result files (Some l) text
       (inr (printed, no_files, no_link)) = absurd (let none = no_link in cc)
 
-  pub no_day : (is_of_issues : Bool) (day : Option ℕ) (old new : Option (List ℕ))
+  pub no_day : {C : Type 0} (gives : C → Option ℕ → C → Type 0) (is_of_issues : Bool)
+      (day : Option ℕ) (begun ended : C) (old new : Option (List ℕ))
       (printed result : Result JobStatus WriteFault) (files : Option (ClosedFiles S first))
-      → (is_of_issues ≡ false) × (day ≡ None)
+      → (is_of_issues ≡ false) × IsTaken gives day None begun ended
       → IfOk printed (λ status. (status ≡ Failed) × Appends old new (codes "clock\n"))
       → result ≡ printed → files ≡ None
-      → HasReported S first is_of_issues day old new result files
-  no_day is_of_issues day old new printed result (Some f) none says same gone = absurd cc
-  no_day is_of_issues day old new printed result None none says same gone =
-      record {
-        reported = tt;
-        unreported =
-            λ _. inl (inl (
-              none.0,
-              none.1,
-              subst (λ r. IfOk r (λ status. (status ≡ Failed) × Appends old new (codes "clock\n")))
-                  (sym same) says,
-            ));
-      }
+      → HasReported S first gives is_of_issues day begun ended old new result files
+  no_day gives is_of_issues day begun ended old new printed result files none says same gone = inl (
+    none.0,
+    none.1,
+    gone,
+    subst (λ r. IfOk r (λ status. (status ≡ Failed) × Appends old new (codes "clock\n")))
+        (sym same) says,
+  )
 
   reported_away : (old new last : Option (List ℕ)) (report : Report)
       (opened after : FileLedger S first) (closed : FileConnection S first)
@@ -482,74 +568,55 @@ module _ (S : RattleType) (first : Ghosts S.Denot) where
             (never (put.honest clean opened)) clean opened) copies;
       }
 
-  reported_over : (is_of_issues : Bool) (day : Option ℕ) (report : Report)
-      (was : FileConnection S first) (old new : Option (List ℕ))
+  reported_over : {C : Type 0} (gives : C → Option ℕ → C → Type 0) (report : Report)
+      (begun ended : C) (was : FileConnection S first) (old new : Option (List ℕ))
       (result : Result JobStatus WriteFault) (files : Option (ClosedFiles S first))
-      (link : Option BoundLink)
-      → IsAskedFor is_of_issues day report → IsFoundIn (image_at first) was
-      → EndsOver (ReportOn report) was old new result files link
-      → HasReported S first is_of_issues day old new result files
-  reported_over is_of_issues day report was old new result None link asked found (inr refused) =
-      record {
-        reported = tt;
-        unreported =
-            λ _. inl (inr (fails_by (IsNotOpened S first) refused.fault old new result
-            (inr (inr (record {
-              was = was;
-              found = found;
-              left = refused.left;
-              refusal = refused.refusal;
-            }))) refused.printed));
-      }
-  reported_over is_of_issues day report was old new result (Some f) link asked found (inr refused) =
-      absurd (let none = refused.no_files in cc)
-  reported_over is_of_issues day report was old new result None link asked found (inl over) =
+      (link : Option BoundLink) → IsFoundIn (image_at first) was
+      → EndsOver gives (ReportOn report) begun ended was old new result files link
+      → IsUnopened S first old new result files ⊎ IsReportOf S first report old new result files
+  reported_over gives report begun ended was old new result None link found (inr refused) =
+      inl (fails_by (IsNotOpened S first) refused.fault old new result
+      (inr (inr (record {
+        was = was;
+        found = found;
+        left = refused.left;
+        refusal = refused.refusal;
+      }))) refused.printed)
+  reported_over gives report begun ended was old new result (Some f) link found (inr refused) =
+      inl (refused_in (λ fault db. IsOpeningRefusal db fault) was refused.fault old new result f
+      found refused.printed refused.kept)
+  reported_over gives report begun ended was old new result files link found (inl over) =
       let (opened, opening, reported, put, unchanged, written, none) = over.worked in
-      record {
-        reported = tt;
-        unreported = λ gone. inr (
-          report,
-          asked,
-          opened,
-          found_book (image_at first) was opened found opening,
-          record {
-            reported = reported;
-            done = over.done;
-            between = over.between;
-            written = written;
-            printed = over.lost gone;
-          },
-        );
-      }
-  reported_over is_of_issues day report was old new result (Some f) link asked found (inl over) =
-      let (opened, opening, reported, put, unchanged, written, none) = over.worked in
-      record {
-        reported = (
-          report,
-          asked,
-          opened,
-          found_book (image_at first) was opened found opening,
-          reported_away old over.between new report opened reported over.closed over.committed
-              over.done result (Some f) opening.none_pending unchanged written put over.kept,
-        );
-        unreported = λ gone. absurd cc;
-      }
+      inr (
+        opened,
+        found_book (image_at first) was opened found opening,
+        reported_away old over.between new report opened reported over.closed over.committed
+            over.done result files opening.none_pending unchanged written put over.kept,
+        λ gone. record {
+          reported = reported;
+          done = over.done;
+          between = over.between;
+          written = written;
+          printed = over.lost gone;
+        },
+      )
 
-  pub reported_in : (is_of_issues : Bool) (day : Option ℕ) (report : Report)
-      (old new : Option (List ℕ)) (result : Result JobStatus WriteFault)
+  pub reported_in : {C : Type 0} (gives : C → Option ℕ → C → Type 0) (is_of_issues : Bool)
+      (day : Option ℕ) (begun between ended : C) (report : Report) (old new : Option (List ℕ))
+      (result : Result JobStatus WriteFault)
       (files : Option (ClosedFiles S first)) (link : Option BoundLink)
-      → IsAskedFor is_of_issues day report → EndsIn S first (ReportOn report) old new result files
-      link → HasReported S first is_of_issues day old new result files
-  reported_in is_of_issues day report old new result files link asked (inl (was, found, ends)) =
-      reported_over is_of_issues day report was old new result files link asked found ends
-  reported_in is_of_issues day report old new result None link asked
+      → IsAskedFor gives is_of_issues day begun ended report
+      → EndsIn S first gives (ReportOn report) between ended old new result files link
+      → HasReported S first gives is_of_issues day begun ended old new result files
+  reported_in gives is_of_issues day begun between ended report old new result files link asked
+      (inl (was, found, ends)) = inr (
+        report,
+        asked,
+        reported_over gives report between ended was old new result files link found ends,
+      )
+  reported_in gives is_of_issues day begun between ended report old new result files link asked
       (inr (printed, no_files, no_link)) =
-      record {
-        reported = tt;
-        unreported = λ _. inl (inr (absent_or_refused old new result printed));
-      }
-  reported_in is_of_issues day report old new result (Some f) link asked
-      (inr (printed, no_files, no_link)) = absurd (let none = no_files in cc)
+      inr (report, asked, inl (unopened old new result files printed no_files))
 
   -- An audit that left these files.
   pub audited_in : (was left : FileConnection S first) (finding : Result ℕ OpenFault)
@@ -557,9 +624,9 @@ module _ (S : RattleType) (first : Ghosts S.Denot) where
       (files : Option (ClosedFiles S first)) (f : ClosedFiles S first)
       → files ≡ Some f → IsFoundIn (image_at first) was → HasFound over_files was left finding
       → IfOk result (λ status. (status ≡ audit_status finding)
-      × Appends old new (audit_line finding)) → LeavesClean left f
+      × Appends old new (audit_line finding)) → LeavesClean left f → AreFilesOf left f
       → HasAudited S first old new result files
-  audited_in was left finding old new result files f is found counted written leaves =
+  audited_in was left finding old new result files f is found counted written leaves of =
       subst (HasAudited S first old new result) (sym is) (record {
         audited = record {
           opened = was;
@@ -569,6 +636,7 @@ module _ (S : RattleType) (first : Ghosts S.Denot) where
           counted = counted;
           written = written;
           leaves = leaves;
+          of = of;
         };
         refused = λ none. absurd cc;
       })
@@ -586,16 +654,18 @@ module _ (S : RattleType) (first : Ghosts S.Denot) where
       })
 
   -- The same for a result that is returned unchanged.
-  pub ended_as : (job same : Job) (old new : Option (List ℕ))
+  pub ended_as : {C : Type 0} (gives : C → Option ℕ → C → Type 0) (job same : Job) (begun ended : C)
+      (old new : Option (List ℕ))
       (result handed : Result JobStatus WriteFault) (files given : Option (ClosedFiles S first))
       (link over : Option BoundLink) (looped left : Option LoopResources)
       → job ≡ same → handed ≡ result → given ≡ files → over ≡ link → left ≡ looped
-      → HasEnded S first same old new result files link looped → HasEnded S first job old new handed
-      given over left
-  ended_as job same old new result handed files given link over looped left is so put on lasts
-      ended =
-      subst (λ l. HasEnded S first job old new handed given over l) (sym lasts)
-      (subst (λ l. HasEnded S first job old new handed given l looped) (sym on)
-      (subst (λ f. HasEnded S first job old new handed f link looped) (sym put)
-      (subst (λ r. HasEnded S first job old new r files link looped) (sym so)
-      (subst (λ j. HasEnded S first j old new result files link looped) (sym is) ended))))
+      → HasEnded S first gives same begun ended old new result files link looped
+      → HasEnded S first gives job begun ended old new handed given over left
+  ended_as gives job same begun ended old new result handed files given link over looped left is so
+      put on lasts did =
+      subst (λ l. HasEnded S first gives job begun ended old new handed given over l) (sym lasts)
+      (subst (λ l. HasEnded S first gives job begun ended old new handed given l looped) (sym on)
+      (subst (λ f. HasEnded S first gives job begun ended old new handed f link looped) (sym put)
+      (subst (λ r. HasEnded S first gives job begun ended old new r files link looped) (sym so)
+      (subst (λ j. HasEnded S first gives j begun ended old new result files link looped) (sym is)
+      did))))

@@ -11,12 +11,15 @@ use Rattle.s10_lines.specs.declared.write_fault.WriteFault.{WriteFault}
 use Rattle.s10_link.specs.declared.peer.Peer.{Peer}
 use Rattle.s10_link.specs.declared.trace.Trace.{Trace}
 use Rattle.s10_link.specs.Link.{LeadsTo}
+use Rattle.s10_link.specs.Link.LeadsTo.{none, more}
+use Rattle.s10_link.proofs.Led.{led_on}
+use Rattle.s10_ends.proofs.Bound.{at_stays, still_bound}
 use Rattle.s10_link.specs.Trace.{new_trace}
 use Rattle.s10_history.specs.declared.entry.Entry.{Entry}
 use Rattle.s10_history.specs.Settings.{Terms}
 use Rattle.s10_ledger.specs.Ledger.{IsOverCleanDisk, MayFind, Ledger, IsHonest, history_in}
 use Rattle.s10_ledger.specs.Ledger.{history_of, committed_of}
-use Rattle.s10_ends.specs.UdpLink.{BoundLink}
+use Rattle.s10_ends.specs.UdpLink.{BoundLink, IsBoundAt}
 use Rattle.s10_ends.specs.Server.{book_of}
 use Rattle.s10_ends.specs.NearLink.{ServedOn}
 use Rattle.s10_ends.proofs.Near.{LedOn, Whole, near_led, near_whole}
@@ -25,7 +28,18 @@ use Rattle.s10_jobs.specs.Shown.{Prints}
 use Rattle.s10_sockets.specs.LoopCalls.{loop_calls, AreMadeInTurn}
 use Rattle.s10_host.specs.declared.loop_resources.LoopResources.{LoopResources}
 use Rattle.s10_host.specs.LoopRun.{LoopLink, IsLoopStep, IsNewLoop, AreLoopResources, IsLoopRun}
-use Rattle.s10_host.specs.LoopRun.{loop_terms}
+use Rattle.s10_host.specs.LoopRun.{loop_terms, localhost}
+
+-- A link over a socket stays at its address.
+abbrev Stays : BoundLink → BoundLink → Type 0
+Stays a b = b.at ≡ a.at
+
+-- The far end of a loop stays at its address.
+far_stays : (begun ended : LoopLink) → LeadsTo IsLoopStep begun ended
+    → LeadsTo Stays begun.far ended.far
+far_stays begun _ none = none
+far_stays begun ended (more {between = between} led step) =
+    led_on (far_stays begun between led) step.led
 
 -- What was served over calls that lead from a new link to another.
 served_over : (day : ℕ) (begun ended : LoopLink) → IsNewLoop day begun
@@ -35,11 +49,11 @@ served_over day begun ended fresh led honest =
     let on : LedOn (λ (b : Ledger MemStore). b.faults) (IsHonest over_memory) (λ b. b.terms)
     (history_of over_memory) (committed_of over_memory) (IsOverCleanDisk over_memory) (MayFind
     over_memory) (λ (l : BoundLink). l.trace)
-    (λ (l : BoundLink). l.trace) begun.day (book_of begun.server) (book_of ended.server) =
+    (λ (l : BoundLink). l.trace) Stays begun.day (book_of begun.server) (book_of ended.server) =
     near_led (λ (b : Ledger MemStore). b.faults) (IsHonest over_memory) (λ b. b.terms)
     (history_of over_memory) (committed_of over_memory) (IsOverCleanDisk over_memory) (MayFind
     over_memory) (λ (l : BoundLink). l.trace)
-    (λ (l : BoundLink). l.trace) begun ended led in
+    (λ (l : BoundLink). l.trace) Stays begun ended led in
     let last : List Entry = history_of over_memory (book_of ended.server) in
     subst (λ (d : ℕ). ServedOn d [] loop_terms last) fresh.on_day
     (subst (λ (t : Terms). ServedOn begun.day [] t last) fresh.terms
@@ -64,31 +78,33 @@ none_left day begun ended fresh led honest =
     let whole : Whole (λ (b : Ledger MemStore). b.faults) (IsHonest over_memory) (λ b. b.terms)
     (history_of over_memory) (committed_of over_memory) (IsOverCleanDisk over_memory) (MayFind
     over_memory) (λ (l : BoundLink). l.trace)
-    (λ (l : BoundLink). l.trace) last =
+    (λ (l : BoundLink). l.trace) Stays last =
     near_whole (λ (b : Ledger MemStore). b.faults) (IsHonest over_memory) (λ b. b.terms)
     (history_of over_memory) (committed_of over_memory) (IsOverCleanDisk over_memory) (MayFind
     over_memory) (λ (l : BoundLink). l.trace)
-    (λ (l : BoundLink). l.trace) begun ended led
+    (λ (l : BoundLink). l.trace) Stays begun ended led
     (λ h. of_none (committed_of over_memory first) first.pending fresh.empty) in
     all_of (committed_of over_memory last) last.pending (whole honest)
 
-asked_over : (to : Peer) (last : Trace) (u v : Option (List ℕ)) (r : Result JobStatus WriteFault)
-    (first : Trace) → first ≡ new_trace
+asked_over : (to at : Peer) (last : Trace) (u v : Option (List ℕ)) (r : Result JobStatus WriteFault)
+    (first : Trace) → first ≡ new_trace → to ≡ at
     → IfOk r (λ status. Prints u v (AreMadeInTurn to loop_calls first last status))
-    → IfOk r (λ status. (to : Peer)
-    × Prints u v (AreMadeInTurn to loop_calls new_trace last status))
-asked_over to last u v (Ok status) first none asked =
-    (to, subst (λ (t : Trace). Prints u v (AreMadeInTurn to loop_calls t last status)) none asked)
-asked_over to last u v (Err fault) first none asked = tt
+    → IfOk r (λ status. Prints u v (AreMadeInTurn at loop_calls new_trace last status))
+asked_over to at last u v (Ok status) first none same asked =
+    subst (λ (p : Peer). Prints u v (AreMadeInTurn p loop_calls new_trace last status)) same
+    (subst (λ (t : Trace). Prints u v (AreMadeInTurn to loop_calls t last status)) none asked)
+asked_over to at last u v (Err fault) first none same asked = tt
 
 -- A run of a loop, from calls over a new link.
-pub looped_over : (to : Peer) (day : ℕ) (begun ended : LoopLink) (looped : LoopResources)
+pub looped_over : (day : ℕ) (begun ended : LoopLink) (looped : LoopResources)
     (u v : Option (List ℕ)) (r : Result JobStatus WriteFault) (first : Trace)
     → IsNewLoop day begun → LeadsTo IsLoopStep begun ended → AreLoopResources ended looped
     → first ≡ new_trace
-    → IfOk r (λ status. Prints u v (AreMadeInTurn to loop_calls first looped.near.trace status))
+    → IsBoundAt localhost begun.far.at
+    → IfOk r (λ status. Prints u v (AreMadeInTurn begun.far.at loop_calls first looped.near.trace
+    status))
     → IsLoopRun day u v r looped
-looped_over to day begun ended looped u v r first fresh led left none asked = record {
+looped_over day begun ended looped u v r first fresh led left none bound asked = record {
   begun = begun;
   fresh = fresh;
   ended = ended;
@@ -100,5 +116,9 @@ looped_over to day begun ended looped u v r first fresh led left none asked = re
       (ap (λ (p : List Entry). committed_of over_memory (book_of ended.server) ++ p)
       (none_left day begun ended fresh led left.honest) ∙ append-nil _)
       (served_over day begun ended fresh led left.honest));
-  asked = asked_over to looped.near.trace u v r first none asked;
+  at = subst (λ (l : BoundLink). IsBoundAt localhost l.at) (sym left.far)
+      (still_bound localhost begun.far ended.far (far_stays begun ended led) bound);
+  asked = asked_over begun.far.at looped.far.at looped.near.trace u v r first none
+      (sym (ap (λ (l : BoundLink). l.at) left.far
+      ∙ at_stays begun.far ended.far (far_stays begun ended led))) asked;
 }

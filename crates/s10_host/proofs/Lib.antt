@@ -3,3 +3,4 @@ mod MemoryLedger
 mod Leaving
 mod Opening
 mod Ending
+mod Answering

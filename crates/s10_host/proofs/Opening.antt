@@ -1,7 +1,7 @@
 -- What a book says of the connection that it was created in or opened from, and of the files that
 -- it is closed in.
 use Rattle.std.proofs.Common.{◌≡◌, ◌≢◌, ◌≤◌, ◌∙◌, ap, refl, sym, subst, arith, List, ◌++◌}
-use Rattle.std.proofs.Common.{append-nil, ℕ, Option, None, Result, Ok, Err, length, length-append}
+use Rattle.std.proofs.Common.{append-nil, ℕ, false, Option, Some, None, Result, Ok, Err, length, length-append}
 use Rattle.std.proofs.lemmas.List.{nil_from_length}
 use Rattle.std.specs.Prelude.{IsTrue, [], IfOk, IfErr, IfSome, OnErr}
 use Rattle.sqlite_disk.specs.declared.Disk.{Ghosts}
@@ -45,7 +45,10 @@ use Rattle.s10_sockets.specs.Unbound.{IsUnbound}
 use Rattle.s10_host.specs.declared.book_job.BookJob.{BookJob}
 use Rattle.s10_host.specs.declared.book_job.BookJob.TheVariants.{Create, Serve, Report as ReportOn}
 use Rattle.s10_host.specs.BookJobs.{IsMadeWith, IsOpenedFrom, HasRunBookJob, IsRefusedLeft}
-use Rattle.s10_host.specs.BookJobs.{IsBookJobRefusal}
+use Rattle.s10_host.specs.BookJobs.{IsBookJobRefusal, IsRefusedBy, IsRefusedAs}
+use Rattle.s10_ends.specs.UdpLink.{IsBoundAt}
+use Rattle.s10_statements.specs.Creating.{HasOneOfTheNames, IsCreateRefusal}
+use Rattle.s10_host.specs.Files.{KeepsRefused}
 
 -- A book without pending calls has the history that its tables hold.
 pub none_pending : {S : Type 0} (g : store.Ghosts S) (book : Ledger S) (h : List Entry)
@@ -55,21 +58,24 @@ none_pending g book h none is honest = ap (λ (p : List Entry). history_in (stat
     ++ p) none ∙ append-nil _ ∙ is honest
 
 -- The ledger of a job, as it was created.
-pub made_for : {S E : Type 0} (g : store.Ghosts S) (terms made : Terms) (r : Result (Ledger S) E)
-    → made ≡ terms
+pub made_for : {S E : Type 0} (g : store.Ghosts S) (terms made : Terms) (was : Held S)
+    (r : Result (Ledger S) E) → made ≡ terms
     → IfOk r (λ b. (b.terms ≡ made) × (b.faults ≡ no_faults))
     → IfOk r (λ b. IsClean g b.conn → IsOpen g b.conn)
     → IfOk r (λ b. IsClean g b.conn → IsOpen g b.conn → IsHonest g b)
     → IfOk r (λ b. IsHonest g b → history_in (state g b.conn).now ≡ [])
-    → IfOk r (λ b. b.pending ≡ []) → IfOk r (IsMadeWith g terms)
-made_for g terms made (Ok book) is new opened honest empty none =
+    → IfOk r (λ b. b.pending ≡ []) → IfOk r (λ b. ¬ HasOneOfTheNames (state g was).now.schema)
+    → IfOk r (λ b. WasSound g was b.conn) → IfOk r (IsMadeWith g terms was)
+made_for g terms made was (Ok book) is new opened honest empty none fresh sound =
     record {
       settings = new.0 ∙ is;
+      fresh = fresh;
+      sound = sound;
       honest = λ clean. honest clean (opened clean);
       empty = none_pending g book [] none empty;
       none_pending = none;
     }
-made_for g terms made (Err e) is new opened honest empty none = tt
+made_for g terms made was (Err e) is new opened honest empty none fresh sound = tt
 
 -- The ledger of a job, as it was opened.
 pub opened_for : {S E : Type 0} (g : store.Ghosts S) (was : Held S) (r : Result (Ledger S) E)
@@ -100,45 +106,84 @@ refused_left g (Create terms) was left fault none refusal = absurd (none terms r
 refused_left g (Serve at count day) was left fault none refusal = refusal
 refused_left g (ReportOn report) was left fault none refusal = refusal
 
-pub refused_for : {S B R : Type 0} (g : store.Ghosts S) (work : BookJob) (was : Held S)
+-- What a refusal says of the connection that it returns.
+refused_as : {S B R : Type 0} (g : store.Ghosts S) (work : BookJob) (was : Held S)
+    (r : Result B R) (left : R → Held S) (fault : R → OpenFault)
+    → IfErr r (λ e. IsBookJobRefusal g work was (left e) (fault e))
+    → IfErr r (λ e. WasSound g was (left e)) → IfErr r (λ e. (left e).in_transaction ≡ false)
+    → IfErr r (λ e. IsClean g (left e) → IsOpen g (left e) → (state g (left e)).now
+    ≡ (state g was).now) → IfErr r (λ e. IsRefusedAs g work was (left e) (fault e))
+refused_as g work was (Ok book) left fault refusal sound idle kept = tt
+refused_as g work was (Err e) left fault refusal sound idle kept =
+    record { refusal = refusal; sound = sound; idle = idle; kept = kept }
+
+pub refused_create : {S B R : Type 0} (g : store.Ghosts S) (terms : Terms) (was : Held S)
+    (r : Result B R) (left : R → Held S) (fault : R → OpenFault)
+    → IfErr r (λ e. IsCreateRefusal (state g was).now.schema (fault e))
+    → IfErr r (λ e. WasSound g was (left e)) → IfErr r (λ e. (left e).in_transaction ≡ false)
+    → IfErr r (λ e. IsClean g (left e) → IsOpen g (left e) → (state g (left e)).now
+    ≡ (state g was).now) → IfErr r (λ e. IsRefusedAs g (Create terms) was (left e) (fault e))
+refused_create g terms was r left fault refusal sound idle kept =
+    refused_as g (Create terms) was r left fault refusal sound idle kept
+
+refused_for_any : {S B R : Type 0} (g : store.Ghosts S) (work : BookJob) (was : Held S)
     (r : Result B R) (left : R → Held S) (fault : R → OpenFault)
     → ((terms : Terms) → work ≢ Create terms)
     → IfErr r (λ e. IsRefusedLeft g was (left e) (fault e))
     → IfErr r (λ e. IsBookJobRefusal g work was (left e) (fault e))
-refused_for g work was (Ok book) left fault none refusal = tt
-refused_for g work was (Err e) left fault none refusal = refused_left g work was (left e) (fault e)
-    none refusal
+refused_for_any g work was (Ok book) left fault none refusal = tt
+refused_for_any g work was (Err e) left fault none refusal =
+    refused_left g work was (left e) (fault e) none refusal
+
+pub refused_for : {S B R : Type 0} (g : store.Ghosts S) (work : BookJob) (was : Held S)
+    (r : Result B R) (left : R → Held S) (fault : R → OpenFault)
+    → ((terms : Terms) → work ≢ Create terms)
+    → IfErr r (λ e. IsRefusedLeft g was (left e) (fault e))
+    → IfErr r (λ e. WasSound g was (left e)) → IfErr r (λ e. (left e).in_transaction ≡ false)
+    → IfErr r (λ e. IsClean g (left e) → IsOpen g (left e) → (state g (left e)).now
+    ≡ (state g was).now) → IfErr r (λ e. IsRefusedAs g work was (left e) (fault e))
+refused_for g work was r left fault none refusal sound idle kept =
+    refused_as g work was r left fault (refused_for_any g work was r left fault none refusal) sound
+    idle kept
 
 -- What a job did, by its ledger before and after and by how that was closed.
-pub worked_with : {S : Type 0} (g : store.Ghosts S) (work : BookJob) (was : Held S)
-    (old new : Option (List ℕ)) (done : Result JobStatus WriteFault) (link : Option BoundLink)
+pub worked_with : {S C : Type 0} (g : store.Ghosts S) (gives : C → Option ℕ → C → Type 0)
+    (work : BookJob) (first last : C) (was : Held S) (old new : Option (List ℕ)) (done : Result JobStatus WriteFault) (link : Option BoundLink)
     (book after : Ledger S) (closed : Held S) (kept : Result (Unit {0}) BookFault)
-    → ((terms : Terms) → work ≡ Create terms → IsMadeWith g terms book)
+    → ((terms : Terms) → work ≡ Create terms → IsMadeWith g terms was book)
     → (((terms : Terms) → work ≢ Create terms) → IsOpenedFrom g was book)
     → ((terms : Terms) → work ≡ Create terms → (done ≡ Ok Done) × (link ≡ None) × (after ≡ book)
     × (new ≡ old))
     → ((at : Peer) (count : ℕ) (day : Option ℕ) → work ≡ Serve at count day
     → (link ≡ None → IsUnbound book after old new done)
-    × IfSome link (Turns g day count book after old new done))
+    × IfSome link (λ l. IsBoundAt at l.at
+    × Turns g gives day first last count book after old new done l))
     → ((report : Report) → work ≡ ReportOn report → (link ≡ None)
     × Unchanged (λ (b : Ledger S). history_of g b) (λ (b : Ledger S). committed_of g b)
     (λ (b : Ledger S). b.terms) (IsHonest g) (IsOverCleanDisk g) (MayFind g) book after
     × (IsHonest g after
     → IfOk done (PrintsReport book.faults after.faults old new
     (report_lines report (history_of g book) book.terms))))
-    → IsClosedAs g after closed kept → HasRunBookJob g work was old new done link closed kept
-worked_with g (Create terms) was old new done link book after closed kept made opened left served
+    → IsClosedAs g after closed kept
+    → HasRunBookJob g gives work first last was old new done link closed kept
+worked_with g gives (Create terms) first last was old new done link book after closed kept made opened left served
     reported closes =
     let (is, none, same, still) = left terms refl in
-    (after, subst (IsMadeWith g terms) (sym same) (made terms refl), closes, is, still, none)
-worked_with g (Serve at count day) was old new done link book after closed kept made opened left
+    (after, subst (IsMadeWith g terms was) (sym same) (made terms refl), closes, is, still, none)
+worked_with g gives (Serve at count day) first last was old new done link book after closed kept made opened left
     served reported closes =
     let (unbound, turns) = served at count day refl in
     (book, opened (λ terms is. absurd cc), after, closes, unbound, turns)
-worked_with g (ReportOn report) was old new done link book after closed kept made opened left
+worked_with g gives (ReportOn report) first last was old new done link book after closed kept made opened left
     served reported closes =
     let (none, unchanged, written) = reported report refl in
     (book, opened (λ terms is. absurd cc), after, closes, unchanged, written, none)
+
+-- Two facts of a link that may be there.
+pub bound_served : {L : Type 0} (P Q : L → Type 0) (link : Option L) → IfSome link P
+    → IfSome link Q → IfSome link (λ l. P l × Q l)
+bound_served P Q None p q = tt
+bound_served P Q (Some l) p q = (p, q)
 
 -- If a list followed by others is the list, there are no others.
 nothing_left : {X : Type 0} (xs ys zs : List X) → xs ≡ (xs ++ ys) ++ zs → zs ≡ []
@@ -170,10 +215,49 @@ calls_all g book closed (Ok _) put never clean opened = put.whole clean opened
 calls_all g book closed (Err fault) put never clean opened = absurd never
 
 module _ {D : Type 0} {g : Ghosts D} where
-  pub empty_book : (terms : Terms) (book : Ledger (FileStore D g))
-      → IsMadeWith over_files terms book → WhereClean IsEmptyBook book
-  empty_book terms book made clean = let sound = made.honest clean in
-      record { honest = sound; empty = made.empty sound }
+  pub empty_book : (held : Image) (terms : Terms) (was : Held (FileStore D g))
+      (book : Ledger (FileStore D g)) → IsFoundIn held was → IsMadeWith over_files terms was book
+      → WhereClean (IsEmptyBook held) book
+  empty_book held terms was book found made clean =
+      let sound = made.honest clean in
+      record {
+        honest = sound;
+        empty = made.empty sound;
+        was = was;
+        opened = found (made.sound clean).0;
+        fresh = made.fresh;
+      }
+
+  refused_by : (work : BookJob) (was left : Held (FileStore D g)) (fault : OpenFault)
+      → IsBookJobRefusal over_files work was left fault → IsClean over_files left
+      → IsOpen over_files left → IsRefusedBy work fault (file_state was).now
+  refused_by (Create terms) was left fault refusal clean opened = refusal
+  refused_by (Serve at count day) was left fault refusal clean opened = refusal clean opened
+  refused_by (ReportOn report) was left fault refusal clean opened = refusal clean opened
+
+  -- The files of a refused ledger hold what they held.
+  kept_refused : (work : BookJob) (was left : Held (FileStore D g)) (fault : OpenFault)
+      (files : Files D) → IsRefusedAs over_files work was left fault
+      → (IsOpen over_files left → (file_state left).committed ≡ (file_state left).now)
+      → Copies left files → KeepsRefused was (IsRefusedBy work fault) files
+  kept_refused work was left fault files refused committed copies clean =
+      let copied = copies clean in
+      record {
+        sound = (refused.sound copied.was_clean).0;
+        refused = refused_by work was left fault refused.refusal copied.was_clean copied.was_open;
+        left = left;
+        same = refused.kept copied.was_clean copied.was_open;
+        quiescent = committed copied.was_open;
+        copied = copied;
+      }
+
+  pub all_kept_refused : (work : BookJob) (was left : Held (FileStore D g)) (fault : OpenFault)
+      (files : Option (Files D)) → IsRefusedAs over_files work was left fault
+      → (IsOpen over_files left → (file_state left).committed ≡ (file_state left).now)
+      → IfSome files (Copies left) → IfSome files (KeepsRefused was (IsRefusedBy work fault))
+  all_kept_refused work was left fault None refused committed copies = tt
+  all_kept_refused work was left fault (Some f) refused committed copies =
+      kept_refused work was left fault f refused committed copies
 
   pub found_book : (held : Image) (was : Held (FileStore D g)) (book : Ledger (FileStore D g))
       → IsFoundIn held was → IsOpenedFrom over_files was book → WhereClean (IsFoundBook held) book

@@ -35,12 +35,13 @@ IsLeftByAudit before after (Ok count) = (IsClosedSchema before.schema → after 
 IsLeftByAudit before after (Err fault) = after ≡ before
 
 -- The finding is right for the database that the connection showed before the audit, if the
--- connection is open afterwards and its disk is clean. The disk is clean afterwards only if it was
--- clean before.
+-- connection is open afterwards and its disk is clean. What it shows then is committed. The disk is
+-- clean afterwards only if it was clean before.
 pub record HasFound {S : Type 0} (g : Ghosts S) (before left : Held S)
     (found : Result ℕ OpenFault) : Type 0 where
   pub sound : WasSound g before left
   pub opened : IsClean g left → OnOk found (IsOpen g left)
+  pub committed : IsClean g left → IsOpen g left → (state g left).committed ≡ (state g left).now
   pub finding : IsClean g left → IsOpen g left → IsFinding (state g before).now found
   pub leaves : IsClean g left → IsOpen g left
       → IsLeftByAudit (state g before).now (state g left).now found

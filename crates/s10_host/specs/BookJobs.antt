@@ -15,11 +15,13 @@ use Rattle.s10_lines.specs.declared.write_fault.WriteFault.{WriteFault}
 use Rattle.s10_history.specs.Settings.{Terms}
 use Rattle.s10_book.specs.declared.book_fault.BookFault.{BookFault}
 use Rattle.s10_book.specs.Book.{Unchanged}
-use Rattle.s10_ends.specs.UdpLink.{BoundLink}
+use Rattle.sqlite.specs.Effect.{Database}
+use Rattle.s10_link.specs.declared.peer.Peer.{Peer}
+use Rattle.s10_ends.specs.UdpLink.{BoundLink, IsBoundAt}
 use Rattle.s10_rows.specs.declared.open_fault.OpenFault.{OpenFault}
 use Rattle.s10_schema.specs.Schema.{IsClosedSchema}
 use Rattle.s10_statements.specs.ConnectionState.{IsClean, IsOpen, WasSound}
-use Rattle.s10_statements.specs.Creating.{IsCreateRefusal}
+use Rattle.s10_statements.specs.Creating.{HasOneOfTheNames, IsCreateRefusal}
 use Rattle.s10_ledger.specs.Ledger.{IsOverCleanDisk, MayFind, Ledger, IsAnyLedger, IsHonest}
 use Rattle.s10_ledger.specs.Ledger.{history_in, history_of}
 use Rattle.s10_ledger.specs.Ledger.{committed_of}
@@ -32,13 +34,16 @@ use Rattle.s10_host.specs.declared.book_job.BookJob.{BookJob}
 use Rattle.s10_host.specs.declared.book_job.BookJob.TheVariants.{Create, Serve, Report}
 use Rattle.s10_host.specs.Closing.{IsClosedAs, Turns}
 use Rattle.s10_host.specs.Files.{FileConnection, ClosedFiles, IsFoundIn, Copies, IsFileFault}
-use Rattle.s10_host.specs.Files.{IsAbsenceOr}
+use Rattle.s10_host.specs.Files.{IsAbsenceOr, KeepsRefused}
 use Rattle.s10_host.specs.Jobs.{ledger_line, FailsByLedger, FailsByClosing, EndsAs}
 
 module _ {S : Type 0} (g : Ghosts S) where
-  -- A ledger that was created with these settings, without calls.
-  pub record IsMadeWith (terms : Terms) (book : Ledger S) : Type 0 where
+  -- A ledger that was created with these settings, without calls. The connection showed none of its
+  -- tables before.
+  pub record IsMadeWith (terms : Terms) (was : Held S) (book : Ledger S) : Type 0 where
     pub settings : book.terms ≡ terms
+    pub fresh : ¬ HasOneOfTheNames (state g was).now.schema
+    pub sound : WasSound g was book.conn
     pub honest : IsClean g book.conn → IsHonest g book
     pub empty : IsHonest g book → history_of g book ≡ []
     pub none_pending : book.pending ≡ []
@@ -54,29 +59,29 @@ module _ {S : Type 0} (g : Ghosts S) where
     pub sound : WasSound g was book.conn
     pub none_pending : book.pending ≡ []
 
-  -- The ledger was opened from a connection, then served in turns unless its address could not be
-  -- bound, and then closed.
-  abbrev pub HasBeenServed : ℕ → Option ℕ → Held S → Option (List ℕ) → Option (List ℕ)
-      → Result JobStatus WriteFault → Option BoundLink → Held S → Result (Unit {0}) BookFault
-      → Type 0
-  HasBeenServed count day was old new done link closed commit_result =
+  -- The ledger was opened from a connection, then served in turns at this address unless it could
+  -- not be bound, and then closed.
+  abbrev pub HasBeenServed : {C : Type 0} → (C → Option ℕ → C → Type 0) → Peer → ℕ → Option ℕ → C
+      → C → Held S → Option (List ℕ) → Option (List ℕ) → Result JobStatus WriteFault
+      → Option BoundLink → Held S → Result (Unit {0}) BookFault → Type 0
+  HasBeenServed gives at count day first last was old new done link closed commit_result =
       (opened : Ledger S) × IsOpenedFrom was opened × (served : Ledger S)
       × IsClosedAs g served closed commit_result
       × (link ≡ None → IsUnbound opened served old new done)
-      × IfSome link (Turns g day count opened served old new done)
+      × IfSome link (λ l. IsBoundAt at l.at
+      × Turns g gives day first last count opened served old new done l)
 
-  -- What a job did over a connection, what it printed, the link and the connection that it
-  -- returned, and whether all calls are committed.
-  abbrev pub HasRunBookJob : BookJob → Held S → Option (List ℕ) → Option (List ℕ)
-      → Result JobStatus WriteFault → Option BoundLink → Held S → Result (Unit {0}) BookFault
-      → Type 0
-  HasRunBookJob (Create terms) was old new done link closed commit_result =
-      (book : Ledger S) × IsMadeWith terms book × IsClosedAs g book closed commit_result × (done ≡
-      Ok Done)
-      × (new ≡ old) × (link ≡ None)
-  HasRunBookJob (Serve at count day) was old new done link closed commit_result =
-      HasBeenServed count day was old new done link closed commit_result
-  HasRunBookJob (Report report) was old new done link closed commit_result =
+  -- What a job did over a connection, the days that it took, what it printed, the link and the
+  -- connection that it returned, and whether all calls are committed.
+  abbrev pub HasRunBookJob : {C : Type 0} → (C → Option ℕ → C → Type 0) → BookJob → C → C → Held S
+      → Option (List ℕ) → Option (List ℕ) → Result JobStatus WriteFault → Option BoundLink → Held S
+      → Result (Unit {0}) BookFault → Type 0
+  HasRunBookJob gives (Create terms) first last was old new done link closed commit_result =
+      (book : Ledger S) × IsMadeWith terms was book × IsClosedAs g book closed commit_result
+      × (done ≡ Ok Done) × (new ≡ old) × (link ≡ None)
+  HasRunBookJob gives (Serve at count day) first last was old new done link closed commit_result =
+      HasBeenServed gives at count day first last was old new done link closed commit_result
+  HasRunBookJob gives (Report report) first last was old new done link closed commit_result =
       (opened : Ledger S) × IsOpenedFrom was opened × (reported : Ledger S)
       × IsClosedAs g reported closed commit_result
       × Unchanged (λ (b : Ledger S). history_of g b) (λ (b : Ledger S). committed_of g b)
@@ -98,21 +103,37 @@ module _ {S : Type 0} (g : Ghosts S) where
   IsBookJobRefusal (Serve at count day) was left fault = IsRefusedLeft was left fault
   IsBookJobRefusal (Report report) was left fault = IsRefusedLeft was left fault
 
+  -- The job was not run, with this fault. The connection is in no transaction and, if its disk is
+  -- clean and it is open, shows what it showed.
+  pub record IsRefusedAs (work : BookJob) (was left : Held S) (fault : OpenFault) : Type 0 where
+    pub refusal : IsBookJobRefusal work was left fault
+    pub sound : WasSound g was left
+    pub idle : left.in_transaction ≡ false
+    pub kept : IsClean g left → IsOpen g left → (state g left).now ≡ (state g was).now
+
+-- The database is refused for the job, with this fault.
+abbrev pub IsRefusedBy : BookJob → OpenFault → Database → Type 0
+IsRefusedBy (Create terms) fault db = IsCreateRefusal db.schema fault
+IsRefusedBy (Serve at count day) fault db = IsOpeningRefusal db fault
+IsRefusedBy (Report report) fault db = IsOpeningRefusal db fault
+
 module _ {D : Type 0} {g : disk.Ghosts D} where
   -- The job was run over a connection, and the ledger was closed in these files or could not be
   -- closed.
-  pub record IsWorkedOver (work : BookJob) (was : Held (FileStore D g)) (old new : Option (List ℕ))
+  pub record IsWorkedOver {C : Type 0} (gives : C → Option ℕ → C → Type 0) (work : BookJob)
+      (first last : C) (was : Held (FileStore D g)) (old new : Option (List ℕ))
       (result : Result JobStatus WriteFault) (files : Option (Files D)) (link : Option BoundLink) :
       Type 0 where
     pub closed : Held (FileStore D g)
     pub done : Result JobStatus WriteFault
     pub between : Option (List ℕ)
     pub committed : Result (Unit {0}) BookFault
-    pub worked : HasRunBookJob over_files work was old between done link closed committed
+    pub worked : HasRunBookJob over_files gives work first last was old between done link closed
+        committed
     pub kept : IfSome files (λ f. Copies closed f × EndsAs committed done between new result)
     pub lost : files ≡ None → FailsByClosing done between new result
 
-  -- The job was not run, and the line says why.
+  -- The job was not run, and the line says why. If the files were closed, they hold what they held.
   pub record IsRefusedOver (work : BookJob) (was : Held (FileStore D g)) (old new : Option (List ℕ))
       (result : Result JobStatus WriteFault) (files : Option (Files D)) (link : Option BoundLink) :
       Type 0 where
@@ -120,22 +141,25 @@ module _ {D : Type 0} {g : disk.Ghosts D} where
     pub left : Held (FileStore D g)
     pub refusal : IsBookJobRefusal over_files work was left fault
     pub printed : IfOk result (λ status. (status ≡ Failed) × Appends old new (ledger_line fault))
-    pub no_files : files ≡ None
+    pub kept : IfSome files (KeepsRefused was (IsRefusedBy work fault))
     pub no_link : link ≡ None
 
   -- How a job over a connection ended: it was run, or its ledger was refused.
-  abbrev pub EndsOver : BookJob → Held (FileStore D g) → Option (List ℕ) → Option (List ℕ)
-      → Result JobStatus WriteFault → Option (Files D) → Option BoundLink → Type 0
-  EndsOver work was old new result files link = IsWorkedOver work was old new result files link
+  abbrev pub EndsOver : {C : Type 0} → (C → Option ℕ → C → Type 0) → BookJob → C → C
+      → Held (FileStore D g) → Option (List ℕ) → Option (List ℕ) → Result JobStatus WriteFault
+      → Option (Files D) → Option BoundLink → Type 0
+  EndsOver gives work first last was old new result files link =
+      IsWorkedOver gives work first last was old new result files link
       ⊎ IsRefusedOver work was old new result files link
 
 module _ (S : RattleType) (first : start.Ghosts S.Denot) where
   -- How a job over files ended: the files were opened for it, or could not be opened and the line
   -- says why.
-  abbrev pub EndsIn : BookJob → Option (List ℕ) → Option (List ℕ) → Result JobStatus WriteFault
+  abbrev pub EndsIn : {C : Type 0} → (C → Option ℕ → C → Type 0) → BookJob → C → C
+      → Option (List ℕ) → Option (List ℕ) → Result JobStatus WriteFault
       → Option (ClosedFiles S first) → Option BoundLink → Type 0
-  EndsIn work old new result files link =
-      ((was : FileConnection S first) × IsFoundIn (image_at first) was × EndsOver work was old new
-      result files link)
+  EndsIn gives work begun ended old new result files link =
+      ((was : FileConnection S first) × IsFoundIn (image_at first) was
+      × EndsOver gives work begun ended was old new result files link)
       ⊎ (IfOk result (FailsByLedger (IsAbsenceOr IsFileFault) old new) × (files ≡ None)
       × (link ≡ None))

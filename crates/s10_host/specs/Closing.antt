@@ -34,10 +34,11 @@ module _ {S : Type 0} (g : Ghosts S) where
     pub same : book.pending ≡ [] → closed ≡ book.conn
     pub none_pending : book.pending ≡ [] → OnErr commit_result ⊥
 
-  -- The turns on a new link, and their lines.
-  abbrev pub Turns : Option ℕ → ℕ → Ledger S → Ledger S → Option (List ℕ) → Option (List ℕ)
-      → Result JobStatus WriteFault → BoundLink → Type 0
-  Turns day count opened served old new result link =
+  -- The turns on a new link, on the given day or on those of a source, and their lines.
+  abbrev pub Turns : {C : Type 0} → (C → Option ℕ → C → Type 0) → Option ℕ → C → C → ℕ → Ledger S
+      → Ledger S → Option (List ℕ) → Option (List ℕ) → Result JobStatus WriteFault → BoundLink
+      → Type 0
+  Turns gives day first last count opened served old new result link =
       ServesTurns (λ (b : Ledger S). b.faults) (IsHonest g) (λ b. b.terms) (history_of g)
-      (committed_of g) (IsOverCleanDisk g) (MayFind g) day (new_trace, opened) (link.trace, served)
-      old new count result
+      (committed_of g) (IsOverCleanDisk g) (MayFind g) gives day (new_trace, opened)
+      (link.trace, served) first last old new count result

@@ -14,7 +14,10 @@ use Rattle.sqlite_wal.specs.Files.{image_at}
 use Rattle.sqlite_wal.specs.Reads.{AreClean}
 use Rattle.sqlite_trees.specs.Tree.{Trees}
 use Rattle.sqlite_store.specs.declared.store.FileStore.{FileStore}
-use Rattle.sqlite_store.specs.FileStore.{view}
+use Rattle.sqlite_store.specs.FileStore.{view, faults, recovers, is_shielded}
+use Rattle.sqlite_store.specs.FileStore.{files as store_files}
+use Rattle.sqlite_trees.specs.View.{IsQuiet, IsUndone}
+use Rattle.sqlite.specs.Effect.{Database}
 use Rattle.sqlite.specs.Held.{Held}
 use Rattle.sqlite.specs.Files.{file_state, over_files, HoldsDatabase, AreFoundIn, IsBlankAs}
 use Rattle.sqlite.specs.Files.{IsOpened}
@@ -28,7 +31,7 @@ use Rattle.s10_ledger.specs.Ledger.{history_of}
 use Rattle.s10_rows.specs.declared.open_fault.OpenFault.{OpenFault}
 use Rattle.s10_rows.specs.declared.open_fault.OpenFault.TheVariants.{NotALedger, Memory, Store}
 use Rattle.s10_ledger.specs.Refusals.{IsOpeningRefusal}
-use Rattle.s10_statements.specs.Creating.{IsCreateRefusal}
+use Rattle.s10_statements.specs.Creating.{HasOneOfTheNames, IsCreateRefusal}
 use Rattle.s10_statements.specs.ConnectionState.{IsClean, IsOpen}
 
 module _ {D : Type 0} {g : Ghosts D} where
@@ -45,10 +48,14 @@ module _ {D : Type 0} {g : Ghosts D} where
   abbrev pub WhereClean : (Ledger (FileStore D g) → Type 0) → Ledger (FileStore D g) → Type 0
   WhereClean Is book = IsClean over_files book.conn → Is book
 
-  -- An honest ledger without calls.
-  pub record IsEmptyBook (book : Ledger (FileStore D g)) : Type 0 where
+  -- An honest ledger without calls, in a database that had none of its tables when it was found.
+  pub record IsEmptyBook (held : Image) (book : Ledger (FileStore D g)) : Type 0 where
     pub honest : IsHonest over_files book
     pub empty : history_of over_files book ≡ []
+    -- What the connection showed when the files were opened.
+    pub was : Held (FileStore D g)
+    pub opened : IsOpened was × FindsIn held (file_state was)
+    pub fresh : ¬ HasOneOfTheNames (file_state was).now.schema
 
   -- An honest ledger over the database that the files held, which was a ledger when it was found.
   -- It shows the same database, or one of an earlier build completed, with the same history.
@@ -86,6 +93,29 @@ module _ {D : Type 0} {g : Ghosts D} where
   -- Both files kept what was written only if the connection's disk is clean.
   abbrev pub LeavesClean : Held (FileStore D g) → Files D → Type 0
   LeavesClean c files = AreClean g files.log files.db → IsClean over_files c
+
+  -- The files are those of the connection's store, in which what was not committed was undone and
+  -- nothing else was changed.
+  pub record AreFilesOf (c : Held (FileStore D g)) (files : Files D) : Type 0 where
+    pub store : FileStore D g
+    pub same : (files.log, files.db) ≡ store_files store
+    pub undone : IsUndone (view c.store) (view store)
+    pub quiet : IsQuiet view faults recovers is_shielded c.store store
+
+  -- The database that a connection showed is refused for this reason, and the files hold it, also
+  -- after a crash.
+  pub record HoldsRefused (was : Held (FileStore D g)) (Refuses : Database → Type 0)
+      (files : Files D) : Type 0 where
+    pub sound : IsClean over_files was
+    pub refused : Refuses (file_state was).now
+    pub left : Held (FileStore D g)
+    pub same : (file_state left).now ≡ (file_state was).now
+    pub quiescent : (file_state left).committed ≡ (file_state left).now
+    pub copied : IsCopied left files
+
+  -- The files of a refused database hold it, if both kept what was written.
+  abbrev pub KeepsRefused : Held (FileStore D g) → (Database → Type 0) → Files D → Type 0
+  KeepsRefused was Refuses files = AreClean g files.log files.db → HoldsRefused was Refuses files
 
 -- A file of the operating system.
 abbrev pub SystemFile : (S : RattleType) → start.Ghosts S.Denot → Type 0

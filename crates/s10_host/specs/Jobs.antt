@@ -1,12 +1,17 @@
 -- Defines what each job has done when it ends, and what it has printed.
 use denote.RattleType.{RattleType}
 use Rattle.std.specs.Prelude.{◌≡◌, ◌⊎◌, ℕ, Bool, true, false, List, [], ◌∷◌, ◌++◌, codes, Option}
-use Rattle.std.specs.Prelude.{None, Result, Ok, Err, IsOk, IfOk, IfSome}
+use Rattle.std.specs.Prelude.{Some, None, Result, Ok, Err, IsOk, IfOk, IfSome}
 use Rattle.std.specs.Io.KnownBytes.{Appends}
 use Rattle.sqlite_disk.specs.declared.start.Start.{Ghosts}
 use Rattle.sqlite_wal.specs.Files.{image_at}
-use Rattle.sqlite.specs.Files.{over_files}
-use Rattle.s10_ends.specs.UdpLink.{BoundLink}
+use Rattle.sqlite_wal.specs.Reads.{AreClean}
+use Rattle.sqlite.specs.Effect.{Database}
+use Rattle.sqlite.specs.Files.{over_files, file_state, IsOpened}
+use Rattle.sqlite.specs.Start.{FindsIn}
+use Rattle.s10_link.specs.declared.peer.Peer.{Peer}
+use Rattle.s10_link.specs.Peer.{SpellsPeer}
+use Rattle.s10_ends.specs.UdpLink.{BoundLink, IsBoundAt}
 use Rattle.s10_lines.specs.declared.write_fault.WriteFault.{WriteFault}
 use Rattle.s10_lines.specs.Lines.{line_of}
 use Rattle.s10_history.specs.Settings.{Terms}
@@ -27,14 +32,17 @@ use Rattle.s10_jobs.specs.declared.reporting.Report.{Report}
 use Rattle.s10_jobs.specs.declared.reporting.Report.TheVariants.{Ranges, Issues}
 use Rattle.s10_host.specs.Audited.{HasFound, audit_line, audit_status}
 use Rattle.s10_jobs.specs.Reporting.{report_lines, PrintsReport}
-use Rattle.s10_ends.specs.Composed.{IsDay}
+use Rattle.s10_jobs.specs.Days.{IsTaken}
 use Rattle.s10_sockets.specs.Questioning.{IsAsked, IsUnasked}
 use Rattle.s10_host.specs.declared.loop_resources.LoopResources.{LoopResources}
 use Rattle.s10_host.specs.Closing.{Turns}
 use Rattle.s10_host.specs.LoopRun.{HasRunLoop}
 use Rattle.s10_host.specs.Files.{FileConnection, FileLedger, ClosedFiles, WhereClean, IsFoundIn}
 use Rattle.s10_host.specs.Files.{IsEmptyBook, IsFoundBook, ClosesInto, LeavesClean, IsFileFault}
-use Rattle.s10_host.specs.Files.{IsAbsenceOr, IsNotMade, IsNotOpened}
+use Rattle.s10_host.specs.Files.{IsAbsenceOr, IsNotMade, IsNotOpened, HoldsRefused, AreFilesOf}
+use Rattle.s10_host.specs.Files.{system_files}
+use Rattle.s10_statements.specs.Creating.{IsCreateRefusal}
+use Rattle.s10_ledger.specs.Refusals.{IsOpeningRefusal}
 
 -- The line of a fault of the ledger.
 abbrev pub ledger_line : OpenFault → List ℕ
@@ -60,11 +68,13 @@ abbrev pub EndsAs : Result (Unit {0}) BookFault → Result JobStatus WriteFault 
 EndsAs (Ok _) done between new result = (result ≡ done) × (new ≡ between)
 EndsAs (Err fault) done between new result = FailsByClosing done between new result
 
--- The report is the one asked for: that of the issues, or that of the ranges on the given day or on
--- one of the clock.
-pub record IsAskedFor (is_of_issues : Bool) (day : Option ℕ) (report : Report) : Type 0 where
-  pub issues : is_of_issues ≡ true → report ≡ Issues
-  pub ranges : is_of_issues ≡ false → (d : ℕ) × (report ≡ Ranges d) × IsDay day d
+-- The report is the one asked for: that of the issues, or that of the ranges on the given day or, if
+-- none is given, on the first day that the source gave.
+pub record IsAskedFor {C : Type 0} (gives : C → Option ℕ → C → Type 0) (is_of_issues : Bool)
+    (day : Option ℕ) (begun ended : C) (report : Report) : Type 0 where
+  pub issues : is_of_issues ≡ true → (report ≡ Issues) × (ended ≡ begun)
+  pub ranges : is_of_issues ≡ false → (d : ℕ) × (report ≡ Ranges d)
+      × IsTaken gives day (Some d) begun ended
 
 -- The question was asked over the link that is returned, or the line says why it was not.
 pub record HasAsked (question : Question) (old new : Option (List ℕ))
@@ -74,29 +84,40 @@ pub record HasAsked (question : Question) (old new : Option (List ℕ))
       → IfOk result (λ status. (line : List ℕ) × IsUnasked question status line
       × Appends old new line)
 
--- The calls of a loop were made on the given day or on one of the clock. Or the clock gave no day,
--- and nothing was bound.
-abbrev pub IsRunOn : Option ℕ → Option (List ℕ) → Option (List ℕ) → Result JobStatus WriteFault
-    → Option LoopResources → Type 0
-IsRunOn day old new result looped =
-    ((d : ℕ) × IsDay day d × HasRunLoop d old new result looped)
-    ⊎ ((day ≡ None) × (looped ≡ None) × IfOk result (λ status. (status ≡ Failed)
-    × Appends old new (codes "clock\n")))
+-- The calls of a loop were made on the given day or, if none is given, on the first day that the
+-- source gave. Or it gave no day, and nothing was bound.
+abbrev pub IsRunOn : {C : Type 0} → (C → Option ℕ → C → Type 0) → Option ℕ → C → C
+    → Option (List ℕ) → Option (List ℕ) → Result JobStatus WriteFault → Option LoopResources
+    → Type 0
+IsRunOn gives day begun ended old new result looped =
+    ((d : ℕ) × IsTaken gives day (Some d) begun ended × HasRunLoop d old new result looped)
+    ⊎ (IsTaken gives day None begun ended × (looped ≡ None)
+    × IfOk result (λ status. (status ≡ Failed) × Appends old new (codes "clock\n")))
 
 module _ (S : RattleType) (first : Ghosts S.Denot) where
+  -- The database in the files is refused for such a reason, and the line says for which. The files
+  -- hold what they held, if both kept what was written.
+  pub record IsRefusedIn (Refuses : OpenFault → Database → Type 0) (old new : Option (List ℕ))
+      (result : Result JobStatus WriteFault) (files : ClosedFiles S first) : Type 0 where
+    pub fault : OpenFault
+    pub printed : IfOk result (λ status. (status ≡ Failed) × Appends old new (ledger_line fault))
+    pub kept : AreClean (system_files S first) files.log files.db
+        → (was : FileConnection S first) × (IsOpened was × FindsIn (image_at first) (file_state was))
+        × HoldsRefused was (Refuses fault) files
+
   -- An empty ledger with these settings was created, and closed in these files.
   pub record HasMadeLedger (terms : Terms) (files : ClosedFiles S first) : Type 0 where
     pub book : FileLedger S first
     pub settings : book.terms ≡ terms
-    pub empty : WhereClean IsEmptyBook book
+    pub empty : WhereClean (IsEmptyBook (image_at first)) book
     pub closes_into : ClosesInto book [] files
 
   -- A ledger was created, and only then `created` was printed. Or the line says why there is none.
   pub record HasCreated (terms : Terms) (old new : Option (List ℕ))
       (result : Result JobStatus WriteFault) (files : Option (ClosedFiles S first)) : Type 0 where
-    pub made : IfSome files (HasMadeLedger terms)
-    pub printed : IfSome files (λ _. IfOk result (λ status. (status ≡ Done)
+    pub closed : IfSome files (λ f. (HasMadeLedger terms f × IfOk result (λ status. (status ≡ Done)
         × Appends old new (codes "created\n")))
+        ⊎ IsRefusedIn (λ fault db. IsCreateRefusal db.schema fault) old new result f)
     pub refused : files ≡ None → IfOk result (FailsByLedger (IsNotMade S first) old new)
 
   -- How the service of a ledger ended, and which calls its files hold: all calls, or the committed
@@ -110,24 +131,25 @@ module _ (S : RattleType) (first : Ghosts S.Denot) where
       × ClosesInto served (committed_of over_files served) files)
 
   -- The ledger was served in turns, which are all that the link carried, and closed in these files.
-  pub record IsServed (opened : FileLedger S first) (day : Option ℕ) (count : ℕ)
+  pub record IsServed {C : Type 0} (gives : C → Option ℕ → C → Type 0)
+      (opened : FileLedger S first) (day : Option ℕ) (begun ended : C) (count : ℕ)
       (old new : Option (List ℕ)) (result : Result JobStatus WriteFault) (link : BoundLink)
       (files : ClosedFiles S first) : Type 0 where
     pub served : FileLedger S first
     pub turned : Result JobStatus WriteFault
     pub between : Option (List ℕ)
-    pub turns : Turns over_files day count opened served old between turned link
+    pub turns : Turns over_files gives day begun ended count opened served old between turned link
     pub was_honest : IsHonest over_files served → IsHonest over_files opened
     pub ends : EndsServed served turned between new result files
 
   -- The ledger was served in turns, and could not be closed.
-  pub record IsLost (opened : FileLedger S first) (day : Option ℕ) (count : ℕ)
-      (old new : Option (List ℕ)) (result : Result JobStatus WriteFault) (link : BoundLink) :
-      Type 0 where
+  pub record IsLost {C : Type 0} (gives : C → Option ℕ → C → Type 0) (opened : FileLedger S first)
+      (day : Option ℕ) (begun ended : C) (count : ℕ) (old new : Option (List ℕ))
+      (result : Result JobStatus WriteFault) (link : BoundLink) : Type 0 where
     pub served : FileLedger S first
     pub turned : Result JobStatus WriteFault
     pub between : Option (List ℕ)
-    pub turns : Turns over_files day count opened served old between turned link
+    pub turns : Turns over_files gives day begun ended count opened served old between turned link
     pub was_honest : IsHonest over_files served → IsHonest over_files opened
     pub printed : FailsByClosing turned between new result
 
@@ -141,27 +163,37 @@ module _ (S : RattleType) (first : Ghosts S.Denot) where
         → IfOk result (λ status. (status ≡ Failed)
         × Appends old new (line_of (codes "link") (codes "bind" ∷ []) ++ ledger_line Store))
 
+  -- The ledger in the files cannot be opened, and the line says why. If its files are returned, they
+  -- hold what they held.
+  abbrev pub IsUnopened : Option (List ℕ) → Option (List ℕ) → Result JobStatus WriteFault
+      → Option (ClosedFiles S first) → Type 0
+  IsUnopened old new result None = IfOk result (FailsByLedger (IsNotOpened S first) old new)
+  IsUnopened old new result (Some files) =
+      IsRefusedIn (λ fault db. IsOpeningRefusal db fault) old new result files
+
   -- Why there is no link, in this order: the address does not read, the ledger cannot be opened,
   -- the address cannot be bound.
   abbrev pub HasNoLink : List ℕ → Option (List ℕ) → Option (List ℕ) → Result JobStatus WriteFault
       → Option (ClosedFiles S first) → Type 0
   HasNoLink bind old new result files =
-      ((¬ IsPeerText bind) × IfOk result (λ status. (status ≡ Refused)
+      ((¬ IsPeerText bind) × (files ≡ None) × IfOk result (λ status. (status ≡ Refused)
       × Appends old new (refused_line (codes "peer" ∷ []))))
-      ⊎ (IsPeerText bind × IfOk result (FailsByLedger (IsNotOpened S first) old new))
+      ⊎ (IsPeerText bind × IsUnopened old new result files)
       ⊎ (IsPeerText bind × (opened : FileLedger S first) × WhereClean (IsFoundBook (image_at first))
       opened × IsUnlinked opened old new result files)
 
-  -- The ledger was opened from the files and served. If the closed files kept what was written, it
-  -- was honest when it was closed, and so when it was opened. Or there is no link, and the line
-  -- says why.
-  pub record HasServed (bind : List ℕ) (day : Option ℕ) (count : ℕ) (old new : Option (List ℕ))
+  -- The ledger was opened from the files and served at the address. If the closed files kept what
+  -- was written, it was honest when it was closed, and so when it was opened. Or there is no link,
+  -- and the line says why.
+  pub record HasServed {C : Type 0} (gives : C → Option ℕ → C → Type 0) (bind : List ℕ)
+      (day : Option ℕ) (begun ended : C) (count : ℕ) (old new : Option (List ℕ))
       (result : Result JobStatus WriteFault) (files : Option (ClosedFiles S first))
       (link : Option BoundLink) : Type 0 where
+    pub at : IfSome link (λ l. (at : Peer) × SpellsPeer bind at × IsBoundAt at l.at)
     pub served : IfSome link (λ l. (opened : FileLedger S first)
         × WhereClean (IsFoundBook (image_at first)) opened
-        × IfSome files (IsServed opened day count old new result l)
-        × (files ≡ None → IsLost opened day count old new result l))
+        × IfSome files (IsServed gives opened day begun ended count old new result l)
+        × (files ≡ None → IsLost gives opened day begun ended count old new result l))
     pub unlinked : link ≡ None → HasNoLink bind old new result files
 
   -- The report of the ledger's history was printed, unless the book or the writer failed.
@@ -192,29 +224,27 @@ module _ (S : RattleType) (first : Ghosts S.Denot) where
     pub written : Writes report opened reported old between done
     pub printed : FailsByClosing done between new result
 
-  -- Why there is no report, in this order: no day was given and the clock gave none, or the ledger
-  -- cannot be opened.
-  abbrev pub HasNoReport : Bool → Option ℕ → Option (List ℕ) → Option (List ℕ)
-      → Result JobStatus WriteFault → Type 0
-  HasNoReport is_of_issues day old new result =
-      ((is_of_issues ≡ false) × (day ≡ None) × IfOk result (λ status. (status ≡ Failed)
-      × Appends old new (codes "clock\n")))
-      ⊎ IfOk result (FailsByLedger (IsNotOpened S first) old new)
+  -- The ledger was opened from the files, and the report was printed.
+  abbrev pub IsReportOf : Report → Option (List ℕ) → Option (List ℕ)
+      → Result JobStatus WriteFault → Option (ClosedFiles S first) → Type 0
+  IsReportOf report old new result files =
+      (opened : FileLedger S first) × WhereClean (IsFoundBook (image_at first)) opened
+      × IfSome files (IsReported opened report old new result)
+      × (files ≡ None → IsReportedAndLost opened report old new result)
 
-  -- The ledger was opened from the files, and the report asked for was printed. Or the line says
-  -- why there is none.
-  pub record HasReported (is_of_issues : Bool) (day : Option ℕ) (old new : Option (List ℕ))
-      (result : Result JobStatus WriteFault) (files : Option (ClosedFiles S first)) : Type 0 where
-    pub reported : IfSome files (λ f. (report : Report) × IsAskedFor is_of_issues day report
-        × (opened : FileLedger S first) × WhereClean (IsFoundBook (image_at first)) opened
-        × IsReported opened report old new result f)
-    pub unreported : files ≡ None → HasNoReport is_of_issues day old new result
-        ⊎ ((report : Report) × IsAskedFor is_of_issues day report
-        × (opened : FileLedger S first) × WhereClean (IsFoundBook (image_at first)) opened
-        × IsReportedAndLost opened report old new result)
+  -- The report asked for was printed. Or the line says why there is none, in this order: no day was
+  -- given and the source gave none, or the ledger cannot be opened.
+  abbrev pub HasReported : {C : Type 0} → (C → Option ℕ → C → Type 0) → Bool → Option ℕ → C → C
+      → Option (List ℕ) → Option (List ℕ) → Result JobStatus WriteFault
+      → Option (ClosedFiles S first) → Type 0
+  HasReported gives is_of_issues day begun ended old new result files =
+      ((is_of_issues ≡ false) × IsTaken gives day None begun ended × (files ≡ None)
+      × IfOk result (λ status. (status ≡ Failed) × Appends old new (codes "clock\n")))
+      ⊎ ((report : Report) × IsAskedFor gives is_of_issues day begun ended report
+      × (IsUnopened old new result files ⊎ IsReportOf report old new result files))
 
-  -- The ledger in the files was audited, the finding was printed, and the files were closed as the
-  -- audit left them.
+  -- The ledger in the files was audited, the finding was printed, and the files were closed as they
+  -- are, without a write.
   pub record IsAudited (old new : Option (List ℕ)) (result : Result JobStatus WriteFault)
       (files : ClosedFiles S first) : Type 0 where
     pub opened : FileConnection S first
@@ -225,6 +255,7 @@ module _ (S : RattleType) (first : Ghosts S.Denot) where
     pub written : IfOk result (λ status. (status ≡ audit_status finding)
         × Appends old new (audit_line finding))
     pub leaves : LeavesClean left files
+    pub of : AreFilesOf left files
 
   -- The ledger was audited, or the line says why the files could not be opened.
   pub record HasAudited (old new : Option (List ℕ)) (result : Result JobStatus WriteFault)
@@ -232,17 +263,20 @@ module _ (S : RattleType) (first : Ghosts S.Denot) where
     pub audited : IfSome files (IsAudited old new result)
     pub refused : files ≡ None → IfOk result (FailsByLedger (IsAbsenceOr IsFileFault) old new)
 
-  -- What a job has done when it ends, by its result and by its resources: files, link or those of a
-  -- loop.
-  abbrev pub HasEnded : Job → Option (List ℕ) → Option (List ℕ) → Result JobStatus WriteFault
+  -- What a job has done when it ends, by the days that it took, by its result and by its resources:
+  -- files, link or those of a loop.
+  abbrev pub HasEnded : {C : Type 0} → (C → Option ℕ → C → Type 0) → Job → C → C
+      → Option (List ℕ) → Option (List ℕ) → Result JobStatus WriteFault
       → Option (ClosedFiles S first) → Option BoundLink → Option LoopResources → Type 0
-  HasEnded (job.Create ledger settings) old new result files link looped =
+  HasEnded gives (job.Create ledger settings) begun ended old new result files link looped =
       HasCreated settings old new result files
-  HasEnded (job.Serve ledger bind count day) old new result files link looped =
-      HasServed bind.now day count old new result files link
-  HasEnded (job.Ask question) old new result files link looped =
+  HasEnded gives (job.Serve ledger bind count day) begun ended old new result files link looped =
+      HasServed gives bind.now day begun ended count old new result files link
+  HasEnded gives (job.Ask question) begun ended old new result files link looped =
       HasAsked question old new result link
-  HasEnded (job.Report ledger is_of_issues day) old new result files link looped =
-      HasReported is_of_issues day old new result files
-  HasEnded (job.Audit ledger) old new result files link looped = HasAudited old new result files
-  HasEnded (job.Loop day) old new result files link looped = IsRunOn day old new result looped
+  HasEnded gives (job.Report ledger is_of_issues day) begun ended old new result files link looped =
+      HasReported gives is_of_issues day begun ended old new result files
+  HasEnded gives (job.Audit ledger) begun ended old new result files link looped =
+      HasAudited old new result files
+  HasEnded gives (job.Loop day) begun ended old new result files link looped =
+      IsRunOn gives day begun ended old new result looped

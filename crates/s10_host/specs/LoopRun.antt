@@ -12,7 +12,7 @@ use Rattle.s10_link.specs.Link.{LeadsTo}
 use Rattle.s10_history.specs.Settings.{Terms}
 use Rattle.s10_ledger.specs.Ledger.{IsOverCleanDisk, MayFind, Ledger, IsHonest, history_in}
 use Rattle.s10_ledger.specs.Ledger.{history_of, committed_of}
-use Rattle.s10_ends.specs.UdpLink.{BoundLink}
+use Rattle.s10_ends.specs.UdpLink.{BoundLink, IsBoundAt}
 use Rattle.s10_ends.specs.NearEnds.{NearEnds}
 use Rattle.s10_ends.specs.Server.{book_of}
 use Rattle.s10_ends.specs.NearLink.{IsNearStep, ServedOn}
@@ -44,7 +44,7 @@ abbrev pub IsLoopStep : LoopLink → LoopLink → Type 0
 IsLoopStep = IsNearStep (λ (b : Ledger MemStore). b.faults) (IsHonest over_memory) (λ b. b.terms)
     (history_of over_memory) (committed_of over_memory) (IsOverCleanDisk over_memory) (MayFind
     over_memory) (λ (l : BoundLink). l.trace)
-    (λ (l : BoundLink). l.trace)
+    (λ (l : BoundLink). l.trace) (λ (a b : BoundLink). b.at ≡ a.at)
 
 -- A new loop: its links carried nothing, and its ledger is empty.
 pub record IsNewLoop (day : ℕ) (link : LoopLink) : Type 0 where
@@ -61,8 +61,13 @@ pub record AreLoopResources (link : LoopLink) (looped : LoopResources) : Type 0 
   pub far : looped.far ≡ link.far
   pub near : looped.near ≡ link.near
 
--- A run of a loop. Its calls are all that a new link carried. The calls served on the day are the
--- history of the ledger. The lines of the calls were printed unless the writer failed.
+-- A loopback address, with a port that the system picks.
+abbrev pub localhost : Peer
+localhost = record { ip = 127 ∷ 0 ∷ 0 ∷ 1 ∷ []; port = 0 }
+
+-- A run of a loop. Its calls are all that a new link carried, and went to the loopback address that
+-- the ledger was served at. The calls served on the day are the history of the ledger. The lines of
+-- the calls were printed unless the writer failed.
 pub record IsLoopRun (day : ℕ) (old new : Option (List ℕ)) (result : Result JobStatus WriteFault)
     (looped : LoopResources) : Type 0 where
   pub begun : LoopLink
@@ -71,8 +76,9 @@ pub record IsLoopRun (day : ℕ) (old new : Option (List ℕ)) (result : Result 
   pub led : LeadsTo IsLoopStep begun ended
   pub left : AreLoopResources ended looped
   pub served : ServedOn day [] loop_terms (history_in (state over_memory looped.connection).now)
-  pub asked : IfOk result (λ status. (to : Peer)
-      × Prints old new (AreMadeInTurn to loop_calls new_trace looped.near.trace status))
+  pub at : IsBoundAt localhost looped.far.at
+  pub asked : IfOk result (λ status. Prints old new
+      (AreMadeInTurn looped.far.at loop_calls new_trace looped.near.trace status))
 
 -- The loop was run, or the line says why no call was made.
 pub record HasRunLoop (day : ℕ) (old new : Option (List ℕ)) (result : Result JobStatus WriteFault)

@@ -56,7 +56,11 @@ fn audit_ledger<S: Alter, K: Observer>(
             } = book.close();
             (Ok(count), connection)
         }
-        Err(Refused { fault, connection }) => (Err(fault), connection),
+        Err(Refused { fault, connection }) => {
+            // Brings into scope that a connection in no transaction has nothing to commit.
+            prove!(connection.is_autocommit());
+            (Err(fault), connection)
+        }
     }
 }
 

@@ -1,11 +1,13 @@
 //! Ledgers in files, for any initial file contents: `S` represents these.
 
-ghost use Rattle.std.specs.Prelude.{◌≡◌, false, IfOk, IfErr};
+ghost use Rattle.std.specs.Prelude.{◌≡◌, false, IfOk, IfErr, IfSome};
+ghost use Rattle.sqlite.specs.Files.{file_state, over_files};
+ghost use Rattle.s10_statements.specs.ConnectionState.{IsOpen};
 ghost use Rattle.sqlite_wal.specs.Files.{image_at};
 ghost use Rattle.s10_host.specs.Files.{IsFoundIn, IsPlain, Copies, IsFileFault, IsAbsenceOr};
 
 use crate::file_kind::{fault_of_existing, fault_of_new, missing_log, remove_log};
-use s10_ledger::{OpenFault, Refused};
+use s10_ledger::OpenFault;
 use sqlite::{Connection, Error, ErrorCode, FileFrom, FileStore, Files, Start};
 use sqlite_disk::Disk;
 use std::fs::OpenOptions;
@@ -205,11 +207,22 @@ fn fault_of_opening(error: &Error) -> OpenFault
     }
 }
 
-/// Closes the file of a refused ledger, and returns why it was refused.
-pub fn fault_of_refusal<D: Disk + Drop>(refusal: Refused<FileStore<D>>) -> OpenFault
-    ensures { result ≡ refusal.fault }
+/// Closes the files of a refused ledger. They hold what the connection shows.
+///
+/// Returns `None` if they cannot be closed so.
+pub fn close_refused<D: Disk + Drop>(connection: Connection<FileStore<D>>) -> Option<Files<D>>
+    requires idle { connection.in_transaction ≡ false }
+    ensures copied { IfSome result (Copies connection) }
+    ensures committed { IsOpen over_files connection → (file_state connection).committed
+        ≡ (file_state connection).now }
 {
-    let Refused { fault, connection } = refusal;
-    let _ = connection.close();
-    fault
+    // Brings into scope that a connection in no transaction has nothing to commit.
+    prove!(connection.is_autocommit());
+    match connection.close_files() {
+        Ok(files) => Some(files),
+        Err((_, store)) => {
+            drop(store.close());
+            None
+        }
+    }
 }

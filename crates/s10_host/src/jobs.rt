@@ -6,16 +6,16 @@ ghost use Rattle.std.specs.Io.KnownBytes.{Appends};
 ghost use Rattle.sqlite.specs.Files.{over_files};
 ghost use Rattle.s10_rows.specs.declared.open_fault.OpenFault.{OpenFault};
 ghost use Rattle.s10_host.specs.Audited.{HasFound, audit_line, audit_status};
-ghost use Rattle.s10_host.specs.Files.{LeavesClean};
+ghost use Rattle.s10_host.specs.Files.{LeavesClean, AreFilesOf};
 ghost use Rattle.s10_host.specs.Jobs.{ledger_line, HasCreated, HasServed, HasReported, HasAudited};
-ghost use Rattle.s10_host.specs.Jobs.{IsRunOn, EndsAs, HasEnded};
+ghost use Rattle.s10_host.specs.Jobs.{HasAsked, IsRunOn, EndsAs, HasEnded};
 ghost use Rattle.s10_host.specs.BookJobs.{EndsOver, EndsIn};
 ghost use Rattle.s10_host.specs.declared.book_job.BookJob.{BookJob};
 
 use crate::book_job::BookJob;
 use crate::file_kind::{missing_log, remove_log};
 use crate::files::{
-    ClosedFiles, checkpoint_and_close, connect_to_ledger, connect_to_new, fault_of_refusal,
+    ClosedFiles, checkpoint_and_close, close_refused, connect_to_ledger, connect_to_new,
 };
 use crate::job_resources::JobResources;
 use crate::ledger_job::{LedgerJob, LedgerJobEnd, run_ledger_job};
@@ -25,11 +25,14 @@ use crate::progress::Progress;
 use s10_book::BookFault;
 use s10_ends::UdpLink;
 use s10_history::Settings;
-use s10_jobs::{Job, JobStatus, Report, day_or_today, fail_by_clock, fail_by_ledger, refuse};
-use s10_ledger::OpenFault;
+use s10_jobs::{
+    Days, Job, JobStatus, Question, Report, fail_by_clock, fail_by_ledger, fail_by_link, next_day,
+    refuse, write_refusal,
+};
+use s10_ledger::{OpenFault, Refused};
 use s10_lines::{WriteFault, write_text};
 use s10_link::Peer;
-use s10_sockets::run_question;
+use s10_sockets::{ask_question, bind_client};
 use sqlite::{Connection, FileStore, Files, Start};
 use sqlite_disk::Disk;
 use std::io::Write;
@@ -45,36 +48,38 @@ type FileJobEnd<D> = (
     Option<Files<D>>,
 );
 
-/// Runs a job. Returns its result and its resources.
+/// Runs a job. Returns its result and its resources. The source of days is asked only if the job
+/// needs a day and none is given.
 ///
 /// # Errors
 ///
 /// `WriteFault` if the output fails.
-pub fn run_job<S: Start, W: Write>(
+pub fn run_job<S: Start, D: Days, W: Write>(
     rt: &HostRuntime,
     job: &Job<'_>,
     start: S,
+    days: &mut D,
     out: &mut W,
 ) -> (Result<JobStatus, WriteFault>, JobResources<S>)
-    ensures { HasEnded S.row S.Start job.now (W.contents out.old) (W.contents out.new) result.0
-        result.1.files result.1.link result.1.looped }
+    ensures { HasEnded S.row S.Start D.gives job.now days.old days.new (W.contents out.old)
+        (W.contents out.new) result.0 result.1.files result.1.link result.1.looped }
 {
     match job {
-        Job::Create { ledger, settings } => run_create(rt, *ledger, *settings, start, out),
+        Job::Create { ledger, settings } => run_create(rt, *ledger, *settings, start, days, out),
         Job::Serve {
             ledger,
             bind,
             count,
             day,
-        } => run_serve(rt, *ledger, *bind, *count, *day, start, out),
+        } => run_serve(rt, *ledger, *bind, *count, *day, start, days, out),
         Job::Ask(question) => with_link(run_question(rt, question, out)),
         Job::Report {
             ledger,
             is_of_issues,
             day,
-        } => run_report(rt, *ledger, *is_of_issues, *day, start, out),
-        Job::Audit { ledger } => run_on_file(rt, *ledger, LedgerJob::Audit, start, out),
-        Job::Loop { day } => with_looped(run_loop_on(rt, *day, out)),
+        } => run_report(rt, *ledger, *is_of_issues, *day, start, days, out),
+        Job::Audit { ledger } => run_on_file(rt, *ledger, LedgerJob::Audit, start, days, out),
+        Job::Loop { day } => with_looped(run_loop_on(rt, *day, days, out)),
     }
 }
 
@@ -103,6 +108,27 @@ fn left_of_task<S: Start>(link: Option<UdpLink>, files: Option<ClosedFiles<S>>) 
     }
 }
 
+// Asks a question over a socket of its own. A text that cannot be read is refused before a socket
+// is bound.
+fn run_question<W: Write>(
+    rt: &HostRuntime,
+    question: &Question<'_>,
+    out: &mut W,
+) -> (Result<JobStatus, WriteFault>, Option<UdpLink>)
+    ensures { HasAsked question.now (W.contents out.old) (W.contents out.new) result.0 result.1 }
+{
+    let (to, body) = match question.read() {
+        Ok(read) => read,
+        Err(refusal) => return (write_refusal(refusal, out), None),
+    };
+    let mut link = match bind_client(rt) {
+        Ok(link) => link,
+        Err(fault) => return (fail_by_link(fault, out), None),
+    };
+    let asked = ask_question(question, &mut link, to, body, out);
+    (asked, Some(link))
+}
+
 fn with_looped<S: Start>(ended: (Result<JobStatus, WriteFault>, Option<LoopResources>)) -> JobEnd<S>
     ensures same { (result.0 ≡ ended.0) × (result.1.looped ≡ ended.1) }
 {
@@ -118,11 +144,12 @@ fn with_looped<S: Start>(ended: (Result<JobStatus, WriteFault>, Option<LoopResou
 }
 
 // Prints `created` only after the ledger is closed in its file.
-fn run_create<S: Start, W: Write>(
+fn run_create<S: Start, D: Days, W: Write>(
     rt: &HostRuntime,
     ledger: &str,
     settings: Settings,
     start: S,
+    days: &mut D,
     out: &mut W,
 ) -> JobEnd<S>
     ensures { HasCreated S.row S.Start settings (W.contents out.old) (W.contents out.new) result.0
@@ -133,12 +160,13 @@ fn run_create<S: Start, W: Write>(
         Ok(connection) => {
             let create = LedgerJob::BookJob(BookJob::Create(settings));
             let (made, link, files) = run_and_close_file(
-                rt, ledger, connection, missing, create, out,
+                rt, ledger, connection, missing, create, days, out,
             );
-            match files {
-                Some(files) => (write_created(out), left_of_task(link, Some(files))),
-                None => (made, left_of_task(link, None)),
-            }
+            let created = match made {
+                Ok(JobStatus::Done) => write_created(out),
+                other => other,
+            };
+            (created, left_of_task(link, files))
         }
         Err(fault) => with_link((fail_by_ledger(fault, out), None)),
     }
@@ -152,24 +180,25 @@ fn write_created<W: Write>(out: &mut W) -> Result<JobStatus, WriteFault>
     Ok(JobStatus::Done)
 }
 
-fn run_serve<S: Start, W: Write>(
+fn run_serve<S: Start, D: Days, W: Write>(
     rt: &HostRuntime,
     ledger: &str,
     bind: &str,
     count: u32,
     day: Option<u32>,
     start: S,
+    days: &mut D,
     out: &mut W,
 ) -> JobEnd<S>
-    ensures { HasServed S.row S.Start bind.now day count (W.contents out.old) (W.contents out.new)
-        result.0 result.1.files result.1.link }
+    ensures { HasServed S.row S.Start D.gives bind.now day days.old days.new count
+        (W.contents out.old) (W.contents out.new) result.0 result.1.files result.1.link }
 {
     let Some(at) = Peer::read(bind.as_bytes()) else {
         return with_link((refuse(b"peer", out), None));
     };
     eprint_opening(rt, ledger);
     let serve = BookJob::Serve { at, count, day };
-    run_on_file(rt, ledger, LedgerJob::BookJob(serve), start, out)
+    run_on_file(rt, ledger, LedgerJob::BookJob(serve), start, days, out)
 }
 
 // Opening a large ledger takes a while. The turns go on even if standard error is closed.
@@ -178,18 +207,19 @@ fn eprint_opening(rt: &HostRuntime, ledger: &str) {
 }
 
 // Determines the day before the ledger is opened.
-fn run_report<S: Start, W: Write>(
+fn run_report<S: Start, D: Days, W: Write>(
     rt: &HostRuntime,
     ledger: &str,
     is_of_issues: bool,
     day: Option<u32>,
     start: S,
+    days: &mut D,
     out: &mut W,
 ) -> JobEnd<S>
-    ensures { HasReported S.row S.Start is_of_issues day (W.contents out.old) (W.contents out.new)
-        result.0 result.1.files }
+    ensures { HasReported S.row S.Start D.gives is_of_issues day days.old days.new
+        (W.contents out.old) (W.contents out.new) result.0 result.1.files }
 {
-    let Some(report) = Report::new(rt, is_of_issues, day) else {
+    let Some(report) = Report::new(days, is_of_issues, day) else {
         return with_link((fail_by_clock(out), None));
     };
     run_on_file(
@@ -197,21 +227,23 @@ fn run_report<S: Start, W: Write>(
         ledger,
         LedgerJob::BookJob(BookJob::Report(report)),
         start,
+        days,
         out,
     )
 }
 
 // Runs the job over the ledger of an existing file.
-fn run_on_file<S: Start, W: Write>(
+fn run_on_file<S: Start, D: Days, W: Write>(
     rt: &HostRuntime,
     ledger: &str,
     task: LedgerJob,
     start: S,
+    days: &mut D,
     out: &mut W,
 ) -> JobEnd<S>
     ensures worked { (work : BookJob) → task ≡ LedgerJob.BookJob work
-        → EndsIn S.row S.Start work (W.contents out.old) (W.contents out.new) result.0
-        result.1.files result.1.link }
+        → EndsIn S.row S.Start D.gives work days.old days.new (W.contents out.old)
+        (W.contents out.new) result.0 result.1.files result.1.link }
     ensures audited { task ≡ LedgerJob.Audit → HasAudited S.row S.Start (W.contents out.old)
         (W.contents out.new) result.0 result.1.files }
 {
@@ -219,7 +251,7 @@ fn run_on_file<S: Start, W: Write>(
     match connect_to_ledger(rt, ledger, start) {
         Ok(connection) => {
             let (done, link, files) = run_and_close_file(
-                rt, ledger, connection, missing, task, out,
+                rt, ledger, connection, missing, task, days, out,
             );
             (done, left_of_task(link, files))
         }
@@ -230,36 +262,39 @@ fn run_on_file<S: Start, W: Write>(
 // Closes the ledger whether or not the job succeeded. If the file was refused, removes the log that
 // opening it created. An audit leaves its files as they are: their last commits may be in the log
 // alone.
-fn run_and_close_file<D: Disk + Drop, W: Write>(
+fn run_and_close_file<F: Disk + Drop, D: Days, W: Write>(
     rt: &HostRuntime,
     ledger: &str,
-    connection: Connection<FileStore<D>>,
+    connection: Connection<FileStore<F>>,
     missing: Option<String>,
     task: LedgerJob,
+    days: &mut D,
     out: &mut W,
-) -> FileJobEnd<D>
+) -> FileJobEnd<F>
     requires idle { connection.in_transaction ≡ false }
     ensures worked { (work : BookJob) → task ≡ LedgerJob.BookJob work
-        → EndsOver work connection (W.contents out.old) (W.contents out.new) result.0 result.2
-        result.1 }
+        → EndsOver D.gives work days.old days.new connection (W.contents out.old)
+        (W.contents out.new) result.0 result.2 result.1 }
     ensures audited { task ≡ LedgerJob.Audit → (result.1 ≡ None) × (files : _)
         × (result.2 ≡ Some files) × (left : _) × (found : Result ℕ OpenFault)
         × HasFound over_files connection left found
         × IfOk result.0 (λ status. (status ≡ audit_status found)
         × Appends (W.contents out.old) (W.contents out.new) (audit_line found))
-        × LeavesClean left files }
+        × LeavesClean left files × AreFilesOf left files }
 {
     let mut progress = Progress::new(rt, ledger);
-    match run_ledger_job(rt, connection, task, &mut progress, out) {
+    match run_ledger_job(rt, connection, task, days, &mut progress, out) {
         LedgerJobEnd::BookJobEnd((worked, link, connection, committed)) => {
             let closed = checkpoint_and_close(rt, ledger, connection);
             let (done, files) = ended(worked, committed, closed, out);
             (done, link, files)
         }
         LedgerJobEnd::Refused(refusal) => {
-            progress.eprint_not_created(&task, refusal.fault);
+            let Refused { fault, connection } = refusal;
+            progress.eprint_not_created(&task, fault);
             remove_log(rt, missing);
-            (fail_by_ledger(fault_of_refusal(refusal), out), None, None)
+            let files = close_refused(connection);
+            (fail_by_ledger(fault, out), None, files)
         }
         LedgerJobEnd::Audited(audited, store) => {
             remove_audit_log(rt, missing, &audited);
@@ -316,14 +351,16 @@ fn remove_audit_log(
 }
 
 // Determines the day before a socket is bound.
-fn run_loop_on<W: Write>(
+fn run_loop_on<D: Days, W: Write>(
     rt: &HostRuntime,
     day: Option<u32>,
+    days: &mut D,
     out: &mut W,
 ) -> (Result<JobStatus, WriteFault>, Option<LoopResources>)
-    ensures { IsRunOn day (W.contents out.old) (W.contents out.new) result.0 result.1 }
+    ensures { IsRunOn D.gives day days.old days.new (W.contents out.old) (W.contents out.new)
+        result.0 result.1 }
 {
-    match day_or_today(rt, day) {
+    match next_day(days, day) {
         Some(day) => run_loop(rt, day, out),
         None => (fail_by_clock(out), None),
     }

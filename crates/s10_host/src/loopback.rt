@@ -4,13 +4,12 @@ ghost use Rattle.std.specs.Prelude.{◌≡◌, None, IfOk, IfErr, IfSome};
 ghost use Rattle.s10_ends.specs.NearEnds.{NearEnds};
 ghost use Rattle.s10_ends.specs.NearLink.{IsNearStep};
 ghost use Rattle.s10_ends.specs.Server.{book_of};
-ghost use Rattle.s10_ends.specs.UdpLink.{BoundLink};
-ghost use Rattle.s10_link.specs.declared.peer.Peer.{Peer};
+ghost use Rattle.s10_ends.specs.UdpLink.{BoundLink, IsBoundAt};
 ghost use Rattle.s10_link.specs.Link.{LeadsTo};
 ghost use Rattle.s10_link.specs.Trace.{new_trace};
 ghost use Rattle.s10_jobs.specs.Shown.{Prints};
 ghost use Rattle.s10_sockets.specs.LoopCalls.{loop_calls, AreMadeInTurn};
-ghost use Rattle.s10_host.specs.LoopRun.{IsLoopRun, IsLoopFailure};
+ghost use Rattle.s10_host.specs.LoopRun.{IsLoopRun, IsLoopFailure, localhost};
 
 use crate::loop_resources::LoopResources;
 use s10_book::Book;
@@ -92,9 +91,10 @@ fn loop_over<B: Book, W: Write>(
         × (ended : NearEnds B BoundLink BoundLink) × (result.1 ≡ book_of ended.server)
         × (result.2 ≡ ended.far) × (result.3 ≡ ended.near)
         × LeadsTo (IsNearStep B.faults B.honest B.terms B.history B.committed B.clean B.may_find
-        (λ (l : BoundLink). l.trace) (λ (l : BoundLink). l.trace)) begun ended
-        × (to : Peer) × IfOk result.0 (λ status. Prints (W.contents out.old) (W.contents out.new)
-        (AreMadeInTurn to loop_calls near.trace result.3.trace status)) }
+        (λ (l : BoundLink). l.trace) (λ (l : BoundLink). l.trace)
+        (λ (a b : BoundLink). b.at ≡ a.at)) begun ended
+        × IfOk result.0 (λ status. Prints (W.contents out.old) (W.contents out.new)
+        (AreMadeInTurn far.at loop_calls near.trace result.3.trace status)) }
 {
     let to = far.local();
     let mut link = NearLink {
@@ -116,6 +116,7 @@ fn loop_over<B: Book, W: Write>(
 // Binds the far and the near link.
 fn two_links<R: Net + Eprint>(rt: &R) -> Result<(UdpLink, UdpLink), LinkFault>
     ensures ok { IfOk result (λ links. (links.0.trace ≡ new_trace) × (links.1.trace ≡ new_trace)) }
+    ensures at { IfOk result (λ links. IsBoundAt localhost links.0.at) }
     ensures refused { IfErr result (λ fault. fault ≡ LinkFault.Bind) }
 {
     let far = bind_link(rt, LOCALHOST)?;

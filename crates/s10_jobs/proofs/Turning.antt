@@ -1,8 +1,10 @@
 -- Lemmas about the turns of a server, one more batch at a time.
 use Rattle.std.proofs.Common.{◌≡◌, ◌≢◌, ℕ, ◌+◌, ◌<◌, ◌≤◌, List, [], ◌∷◌, ◌++◌, length, Option, Some}
 use Rattle.std.proofs.Common.{None, Result, Ok, Err, refl, sym, ap, subst, ◌∙◌, arith}
-use Rattle.std.proofs.Common.{length-append}
-use Rattle.std.specs.Prelude.{IfOk, IsErrAnd, codes}
+use Rattle.std.proofs.Common.{length-append, map, inl, inr}
+use Rattle.std.proofs.lemmas.List.{map-append}
+use Rattle.std.proofs.lemmas.List.Elements.{All-nil, All-push}
+use Rattle.std.specs.Prelude.{IfOk, IsErrAnd, All, codes}
 use Rattle.std.specs.List.{flat_map}
 use Rattle.std.specs.Io.KnownBytes.{Appends}
 use Rattle.std.proofs.KnownBytes.{Appends-nil, Appends-trans}
@@ -17,16 +19,17 @@ use Rattle.s10_book.specs.declared.faults.Faults.{Faults}
 use Rattle.s10_book.specs.Rules.{IsLegal}
 use Rattle.s10_ends.specs.Turn.{Turn}
 use Rattle.s10_jobs.specs.declared.job_status.JobStatus.{JobStatus}
-use Rattle.s10_jobs.specs.declared.job_status.JobStatus.TheVariants.{Done, Failed}
+use Rattle.s10_jobs.specs.declared.job_status.JobStatus.TheVariants.{Done, Refused, CommandLine, Failed}
 use Rattle.s10_jobs.specs.TurnLines.{turn_line}
-use Rattle.s10_ends.specs.Composed.{IsDay, BatchesLead, IsBatch, turns_in}
+use Rattle.s10_ends.specs.Composed.{DatedBatch, BatchesLead, IsBatch, turns_in, days_of}
 use Rattle.s10_book.specs.Book.{Grows}
 use Rattle.s10_ends.proofs.Composing.{all_composed}
 use Rattle.s10_ends.proofs.Stops.{survived}
+use Rattle.s10_jobs.specs.Days.{Gives, IsTaken, AreTaken}
 use Rattle.s10_jobs.specs.Serving.{PrintsBatch, Serves, ServesTurns}
 
-lead_more : {S : Type 0} (IsStep : S → List Turn → S → Type 0) (old : S)
-    (batches : List (List Turn)) (mid new : S) (batch : List Turn)
+lead_more : {S : Type 0} (IsStep : S → DatedBatch → S → Type 0) (old : S)
+    (batches : List DatedBatch) (mid new : S) (batch : DatedBatch)
     → BatchesLead IsStep old batches mid → IsStep mid batch new
     → BatchesLead IsStep old (batches ++ batch ∷ []) new
 unfolding BatchesLead
@@ -38,101 +41,193 @@ lead_more IsStep old [] mid new batch same step = (
 lead_more IsStep old (first ∷ batches) mid new batch (next, begun, rest) step =
     (next, begun, lead_more IsStep next batches mid new batch rest step)
 
-turns_more : (batches : List (List Turn)) (batch : List Turn) → turns_in (batches ++ batch ∷ [])
-    ≡ turns_in batches ++ batch
-turns_more batches batch = sym (flat_map_more (λ (r : List Turn). r) [] batches batch)
+turns_more : (batches : List DatedBatch) (batch : DatedBatch) → turns_in (batches ++ batch ∷ [])
+    ≡ turns_in batches ++ batch.turns
+turns_more batches batch = sym (flat_map_more (λ (r : DatedBatch). r.turns) [] batches batch)
+
+module _ {D : Type 0} (gives : D → Option ℕ → D → Type 0) where
+  -- A source that gave some answers gave one more.
+  gives_more : (old : D) (answers : List (Option ℕ)) (mid new : D) (answer : Option ℕ)
+      → Gives gives old answers mid → gives mid answer new
+      → Gives gives old (answers ++ answer ∷ []) new
+  unfolding Gives
+  gives_more old [] mid new answer same step = (
+    new,
+    subst (λ s. gives s answer new) same step,
+    refl,
+  )
+  gives_more old (first ∷ answers) mid new answer (next, begun, rest) step =
+      (next, begun, gives_more next answers mid new answer rest step)
+
+  gives_none : (source : D) → Gives gives source [] source
+  unfolding Gives
+  gives_none source = refl
+
+  -- The days of batches so far.
+  abbrev pub SoFar : Option ℕ → List ℕ → D → D → Type 0
+  SoFar given days old new = AreTaken gives given days (Ok Done) old new
+
+  pub none_taken : (given : Option ℕ) (source : D) → SoFar given [] source source
+  none_taken (Some day) source = (All-nil (λ (d : ℕ). d ≡ day), refl)
+  none_taken None source = ([], gives_none source, refl)
+
+  days_more : (given : Option ℕ) (batches : List DatedBatch) (batch : DatedBatch) (old mid new : D)
+      → SoFar given (days_of batches) old mid → IsTaken gives given (Some batch.day) mid new
+      → SoFar given (days_of (batches ++ batch ∷ [])) old new
+  days_more (Some day) batches batch old mid new sofar taken = (
+    subst (λ (l : List ℕ). All (λ (d : ℕ). d ≡ day) l)
+        (sym (map-append (λ (b : DatedBatch). b.day) batches (batch ∷ [])))
+        (All-push (λ (d : ℕ). d ≡ day) (days_of batches) batch.day sofar.0
+        (same_Some batch.day day taken.0)),
+    taken.1 ∙ sofar.1,
+  )
+  days_more None batches batch old mid new (answers, gave, are) taken = (
+    answers ++ Some batch.day ∷ [],
+    gives_more old answers mid new (Some batch.day) gave taken,
+    ap (λ (l : List (Option ℕ)). l ++ Some batch.day ∷ []) are
+        ∙ sym (ap (λ (l : List ℕ). map (λ (d : ℕ). Some d) l)
+        (map-append (λ (b : DatedBatch). b.day) batches (batch ∷ []))
+        ∙ map-append (λ (d : ℕ). Some d) (days_of batches) (batch.day ∷ [])),
+  )
+
+  -- Days that were taken, if the last lines were not written.
+  days_unprinted : (given : Option ℕ) (days : List ℕ) (old new : D) (fault : WriteFault)
+      → SoFar given days old new → AreTaken gives given days (Err fault) old new
+  days_unprinted (Some day) days old new fault sofar = sofar
+  days_unprinted None days old new fault (answers, gave, are) = (answers, gave, inl are)
+
+  -- The source gave no day after these.
+  days_end : (given : Option ℕ) (days : List ℕ) (old mid new : D)
+      (result : Result JobStatus WriteFault)
+      → SoFar given days old mid → IsTaken gives given None mid new
+      → IfOk result (λ status. status ≡ Failed) → AreTaken gives given days result old new
+  days_end (Some day) days old mid new result sofar taken failed = absurd (none-some day taken.0)
+  days_end None days old mid new (Ok Failed) (answers, gave, are) taken failed = (
+    answers ++ None ∷ [],
+    gives_more old answers mid new None gave taken,
+    ap (λ (l : List (Option ℕ)). l ++ None ∷ []) are,
+  )
+  days_end None days old mid new (Ok Done) sofar taken failed = absurd cc
+  days_end None days old mid new (Ok Refused) sofar taken failed = absurd cc
+  days_end None days old mid new (Ok CommandLine) sofar taken failed = absurd cc
+  days_end None days old mid new (Err fault) (answers, gave, are) taken failed = (
+    answers ++ None ∷ [],
+    gives_more old answers mid new None gave taken,
+    inr (ap (λ (l : List (Option ℕ)). l ++ None ∷ []) are),
+  )
 
 -- n turns were served, and their lines written.
-pub record HasServed {S : Type 0} (IsStep : S → List Turn → S → Type 0) (old new : S)
+pub record HasServed {S D : Type 0} (IsStep : S → DatedBatch → S → Type 0)
+    (gives : D → Option ℕ → D → Type 0) (given : Option ℕ) (old new : S) (first last : D)
     (held now : Option (List ℕ)) (done : ℕ) : Type 0 where
-  pub batches : List (List Turn)
+  pub batches : List DatedBatch
   pub lead : BatchesLead IsStep old batches new
+  pub days : SoFar gives given (days_of batches) first last
   pub many : length (turns_in batches) ≡ done
   pub written : Appends held now (flat_map turn_line (turns_in batches))
 
-pub none_served : {S : Type 0} (IsStep : S → List Turn → S → Type 0) (s : S)
-    (held : Option (List ℕ)) → HasServed IsStep s s held held 0
+-- Turns that were served, with the days that they took.
+pub record ServesOn {S D : Type 0} (IsStep : S → DatedBatch → S → Type 0)
+    (gives : D → Option ℕ → D → Type 0) (given : Option ℕ) (old new : S) (first last : D)
+    (held now : Option (List ℕ)) (count : ℕ) (result : Result JobStatus WriteFault) : Type 0 where
+  pub serves : Serves IsStep old new held now count result
+  pub days : AreTaken gives given (days_of serves.batches) result first last
+
+pub none_served : {S D : Type 0} (IsStep : S → DatedBatch → S → Type 0)
+    (gives : D → Option ℕ → D → Type 0) (given : Option ℕ) (s : S) (first : D)
+    (held : Option (List ℕ)) → HasServed IsStep gives given s s first first held held 0
 unfolding BatchesLead
-none_served IsStep s held = record {
+none_served IsStep gives given s first held = record {
   batches = [];
   lead = refl;
+  days = none_taken gives given first;
   many = refl;
   written = Appends-nil held;
 }
 
-module _ {S : Type 0} (IsStep : S → List Turn → S → Type 0) (old mid new : S)
+module _ {S D : Type 0} (IsStep : S → DatedBatch → S → Type 0) (gives : D → Option ℕ → D → Type 0)
+    (given : Option ℕ) (old mid new : S) (first then last : D)
     (held before now : Option (List ℕ)) (done count : ℕ)
-    (served : HasServed IsStep old mid held before done) where
-  batch_more : (batch : List Turn) → IsStep mid batch new
-      → Appends before now (flat_map turn_line batch)
-      → HasServed IsStep old new held now (done + length batch)
-  batch_more batch step lines = record {
+    (served : HasServed IsStep gives given old mid first then held before done) where
+  batch_more : (batch : DatedBatch) → IsStep mid batch new
+      → IsTaken gives given (Some batch.day) then last
+      → Appends before now (flat_map turn_line batch.turns)
+      → HasServed IsStep gives given old new first last held now (done + length batch.turns)
+  batch_more batch step taken lines = record {
     batches = served.batches ++ batch ∷ [];
     lead = lead_more IsStep old served.batches mid new batch served.lead step;
+    days = days_more gives given served.batches batch first then last served.days taken;
     many = ap length (turns_more served.batches batch)
-        ∙ omega (arith, length-append (turns_in served.batches) batch, served.many);
+        ∙ omega (arith, length-append (turns_in served.batches) batch.turns, served.many);
     written = subst (λ l. Appends held now l)
         (sym (ap (flat_map turn_line) (turns_more served.batches batch) ∙ flat_map-append turn_line
-        (turns_in served.batches) batch))
+        (turns_in served.batches) batch.turns))
         (Appends-trans held before now (flat_map turn_line (turns_in served.batches))
-        (flat_map turn_line batch) served.written lines);
+        (flat_map turn_line batch.turns) served.written lines);
   }
 
   -- One more batch, whose lines were written.
-  pub batch_served : (Is : List Turn → Type 0) (most turns : ℕ)
-      → ((batch : List Turn) → Is batch → IsStep mid batch new)
-      → PrintsBatch Is most before now (Ok turns) → HasServed IsStep old new held now (done + turns)
-  batch_served Is most turns step (batch, is, few, (many, some, lines)) =
-      subst (λ n. HasServed IsStep old new held now (done + n)) (sym many)
-      (batch_more batch (step batch is) lines)
+  pub batch_served : (Is : List Turn → Type 0) (day most turns : ℕ)
+      → IsTaken gives given (Some day) then last
+      → ((batch : List Turn) → Is batch → IsStep mid (record { day = day; turns = batch }) new)
+      → PrintsBatch Is most before now (Ok turns)
+      → HasServed IsStep gives given old new first last held now (done + turns)
+  batch_served Is day most turns taken step (batch, is, few, (many, some, lines)) =
+      subst (λ n. HasServed IsStep gives given old new first last held now (done + n)) (sym many)
+      (batch_more (record { day = day; turns = batch }) (step batch is) taken lines)
 
   -- One more batch, whose lines were not written.
-  pub batch_unprinted : (Is : List Turn → Type 0) (most : ℕ) (shown : Result ℕ WriteFault)
+  pub batch_unprinted : (Is : List Turn → Type 0) (day most : ℕ) (shown : Result ℕ WriteFault)
       (result : Result JobStatus WriteFault) (IsFault : WriteFault → Type 0)
-      → IsErrAnd result IsFault → ((batch : List Turn) → Is batch → IsStep mid batch new)
+      → IsErrAnd result IsFault → IsTaken gives given (Some day) then last
+      → ((batch : List Turn) → Is batch → IsStep mid (record { day = day; turns = batch }) new)
       → done + most ≤ count → PrintsBatch Is most before now shown
-      → Serves IsStep old new held now count result
-  batch_unprinted Is most shown (Err fault) IsFault failed step room (batch, is, few, lines) =
+      → ServesOn IsStep gives given old new first last held now count result
+  batch_unprinted Is day most shown (Err fault) IsFault failed taken step room (
+    batch,
+    is,
+    few,
+    lines,
+  ) =
+      let dated : DatedBatch = record { day = day; turns = batch } in
       record {
-        batches = served.batches ++ batch ∷ [];
-        lead = lead_more IsStep old served.batches mid new batch served.lead (step batch is);
-        few = omega (
-          arith,
-          ap length (turns_more served.batches batch),
-          length-append (turns_in served.batches) batch,
-          served.many,
-          few,
-          room,
-        );
-        shows = tt;
+        serves = record {
+          batches = served.batches ++ dated ∷ [];
+          lead = lead_more IsStep old served.batches mid new dated served.lead (step batch is);
+          few = omega (
+            arith,
+            ap length (turns_more served.batches dated),
+            length-append (turns_in served.batches) batch,
+            served.many,
+            few,
+            room,
+          );
+          shows = tt;
+        };
+        days = days_unprinted gives given (days_of (served.batches ++ dated ∷ [])) first last fault
+            (days_more gives given served.batches dated first then last served.days taken);
       }
-  batch_unprinted Is most shown (Ok status) IsFault failed step room batch = absurd failed
+  batch_unprinted Is day most shown (Ok status) IsFault failed taken step room batch =
+      absurd failed
 
--- The day of a turn is the given day.
-pub given_day : (given found : Option ℕ) (day : ℕ) → (given ≢ None → found ≡ given)
-    → found ≡ Some day → IsDay given day
-given_day None found day same is = λ d e. absurd (none-some d e)
-given_day (Some given) found day same is =
-    λ d e. same_Some day d (sym is ∙ same (λ none. none-some given (sym none)) ∙ e)
+  pub all_served : done ≡ count
+      → ServesOn IsStep gives given old mid first then held before count (Ok Done)
+  all_served same = record {
+    serves = record {
+      batches = served.batches;
+      lead = served.lead;
+      few = omega (arith, served.many, same);
+      shows = (served.many ∙ same, served.written);
+    };
+    days = served.days;
+  }
 
-pub all_served : {S : Type 0} (IsStep : S → List Turn → S → Type 0) (old new : S)
-    (held now : Option (List ℕ)) (done count : ℕ)
-    → HasServed IsStep old new held now done → done ≡ count → Serves IsStep old new held now count
-    (Ok Done)
-all_served IsStep old new held now done count served same = record {
-  batches = served.batches;
-  lead = served.lead;
-  few = omega (arith, served.many, same);
-  shows = (served.many ∙ same, served.written);
-}
-
-pub served_to_no_day : {S : Type 0} (IsStep : S → List Turn → S → Type 0) (old new : S)
-    (held before now : Option (List ℕ)) (done count : ℕ) (result : Result JobStatus WriteFault)
-    → HasServed IsStep old new held before done → done < count
-    → IfOk result (λ status. (status ≡ Failed) × Appends before now (codes "clock\n"))
-    → Serves IsStep old new held now count result
-served_to_no_day IsStep old new held before now done count (Ok Failed) served few (is, line) =
-    record {
+  pub served_to_no_day : (result : Result JobStatus WriteFault) → done < count
+      → IsTaken gives given None then last
+      → IfOk result (λ status. (status ≡ Failed) × Appends before now (codes "clock\n"))
+      → ServesOn IsStep gives given old mid first last held now count result
+  served_to_no_day (Ok Failed) few taken (is, line) = record {
+    serves = record {
       batches = served.batches;
       lead = served.lead;
       few = omega (arith, served.many, few);
@@ -142,40 +237,43 @@ served_to_no_day IsStep old new held before now done count (Ok Failed) served fe
             (codes "clock\n")
             served.written line,
       );
-    }
-served_to_no_day IsStep old new held before now done count (Ok Done) served few (is, line) =
-    absurd cc
-served_to_no_day IsStep old new held before now done count (Ok status) served few (is, line) =
-    absurd cc
-served_to_no_day IsStep old new held before now done count (Err fault) served few says =
-    record {
+    };
+    days = days_end gives given (days_of served.batches) first then last (Ok Failed) served.days
+        taken is;
+  }
+  served_to_no_day (Ok Done) few taken (is, line) = absurd cc
+  served_to_no_day (Ok status) few taken (is, line) = absurd cc
+  served_to_no_day (Err fault) few taken says = record {
+    serves = record {
       batches = served.batches;
       lead = served.lead;
       few = omega (arith, served.many, few);
       shows = tt;
-    }
+    };
+    days = days_end gives given (days_of served.batches) first then last (Err fault) served.days
+        taken tt;
+  }
 
 -- Batches one after another give what one run gives, and survive a stop.
-pub as_one : {B : Type 0} (faults : B → Faults) (honest : B → Type 0) (terms : B → Terms)
+pub as_one : {B D : Type 0} (faults : B → Faults) (honest : B → Type 0) (terms : B → Terms)
     (history committed : B → List Entry) (clean : B → Type 0)
     (may_find : B → Option (List Entry) → Type 0)
     → ((book : B) → honest book → IsLegal (history book) (terms book))
     → ((book : B) → honest book → Grows (committed book) (history book))
     → ((book : B) → honest book → (found : Option (List Entry)) → may_find book found
     → found ≡ Some (committed book))
-    → (given : Option ℕ) (old new : Trace × B) (held now : Option (List ℕ)) (count : ℕ)
-    (result : Result JobStatus WriteFault)
-    → Serves (IsBatch faults honest terms history committed clean may_find given) old new held now
-    count result
-    → ServesTurns faults honest terms history committed clean may_find given old new held now count
-    result
-as_one faults honest terms history committed clean may_find legal first found given old new held
-    now count result serves = record {
-      serves = serves;
-      composed = all_composed faults honest terms history committed clean may_find given legal old
-          new
-          serves.batches serves.lead;
-      survives = survived faults honest terms history committed clean may_find given legal first
-          found
+    → (gives : D → Option ℕ → D → Type 0) (given : Option ℕ) (old new : Trace × B) (first last : D)
+    (held now : Option (List ℕ)) (count : ℕ) (result : Result JobStatus WriteFault)
+    → ServesOn (IsBatch faults honest terms history committed clean may_find) gives given old new
+    first last held now count result
+    → ServesTurns faults honest terms history committed clean may_find gives given old new first
+    last held now count result
+as_one faults honest terms history committed clean may_find legal first_law found gives given old
+    new first last held now count result on = record {
+      serves = on.serves;
+      days = on.days;
+      composed = all_composed faults honest terms history committed clean may_find legal old new
+          on.serves.batches on.serves.lead;
+      survives = survived faults honest terms history committed clean may_find legal first_law found
           old new;
     }

@@ -10,3 +10,4 @@ pub mod Asked
 pub mod Questions
 pub mod Reporting
 pub mod Serving
+pub mod Days

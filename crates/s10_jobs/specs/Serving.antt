@@ -8,14 +8,15 @@ use Rattle.s10_history.specs.declared.entry.Entry.{Entry}
 use Rattle.s10_history.specs.Settings.{Terms}
 use Rattle.s10_book.specs.declared.faults.Faults.{Faults}
 use Rattle.s10_ends.specs.Turn.{Turn}
-use Rattle.s10_ends.specs.Composed.{BatchesLead, turns_in, IsBatch, deliveries_in, answers_in}
-use Rattle.s10_ends.specs.Composed.{ServesAll, SurvivesStop}
+use Rattle.s10_ends.specs.Composed.{DatedBatch, BatchesLead, turns_in, days_of, IsBatch}
+use Rattle.s10_ends.specs.Composed.{deliveries_in, answers_in, ServesAll, SurvivesStop}
 use Rattle.s10_jobs.specs.declared.job_status.JobStatus.{JobStatus}
 use Rattle.s10_jobs.specs.declared.job_status.JobStatus.TheVariants.{Done, Refused, CommandLine}
 use Rattle.s10_jobs.specs.declared.job_status.JobStatus.TheVariants.{Failed}
+use Rattle.s10_jobs.specs.Days.{AreTaken}
 use Rattle.s10_jobs.specs.TurnLines.{turn_line}
 
--- The lines of all turns. If the clock gave no day, there are fewer turns, then the line `clock`.
+-- The lines of all turns. If the source gave no day, there are fewer turns, then the line `clock`.
 abbrev pub PrintsTurns : Option (List ℕ) → Option (List ℕ) → List Turn → ℕ → JobStatus → Type 0
 PrintsTurns held now turns count Done = (length turns ≡ count)
     × Appends held now (flat_map turn_line turns)
@@ -35,9 +36,9 @@ PrintsBatch Is most held now result =
 
 -- At most `count` turns, in batches by such steps. Their lines were written unless the writer
 -- failed.
-pub record Serves {S : Type 0} (IsStep : S → List Turn → S → Type 0) (old new : S)
+pub record Serves {S : Type 0} (IsStep : S → DatedBatch → S → Type 0) (old new : S)
     (held now : Option (List ℕ)) (count : ℕ) (result : Result JobStatus WriteFault) : Type 0 where
-  pub batches : List (List Turn)
+  pub batches : List DatedBatch
   pub lead : BatchesLead IsStep old batches new
   pub few : length (turns_in batches) ≤ count
   pub shows : IfOk result (PrintsTurns held now (turns_in batches) count)
@@ -45,20 +46,21 @@ pub record Serves {S : Type 0} (IsStep : S → List Turn → S → Type 0) (old 
 module _ {B : Type 0} (faults : B → Faults) (honest : B → Type 0) (terms : B → Terms)
     (history committed : B → List Entry) (clean : B → Type 0)
     (may_find : B → Option (List Entry) → Type 0) where
-  -- At most `count` turns of a server, in batches on the given day. If the book is honest after
-  -- them, they give what one run over all their datagrams gives. If it is clean after them and was
-  -- honest after some of them, an opening after a stop finds each call whose reply these sent.
-  pub record ServesTurns (given : Option ℕ) (old new : Trace × B) (held now : Option (List ℕ))
-      (count : ℕ) (result : Result JobStatus WriteFault) : Type 0 where
-    pub serves : Serves (IsBatch faults honest terms history committed clean may_find given) old new
-        held now
-        count result
+  -- At most `count` turns of a server, in batches on the given day, or each on the next day that a
+  -- source gives. If the book is honest after them, they give what one run over all their datagrams
+  -- gives. If it is clean after them and was honest after some of them, an opening after a stop
+  -- finds each call whose reply these sent.
+  pub record ServesTurns {D : Type 0} (gives : D → Option ℕ → D → Type 0) (given : Option ℕ)
+      (old new : Trace × B) (before after : D) (held now : Option (List ℕ)) (count : ℕ)
+      (result : Result JobStatus WriteFault) : Type 0 where
+    pub serves : Serves (IsBatch faults honest terms history committed clean may_find) old new held
+        now count result
+    pub days : AreTaken gives given (days_of serves.batches) result before after
     pub composed : honest new.1 → ServesAll faults honest terms history committed clean may_find
         old.1 new.1
         (deliveries_in faults honest terms history committed clean may_find old new serves.batches
-        given
         serves.lead)
         (answers_in faults honest terms history committed clean may_find old new serves.batches
-        given serves.lead)
+        serves.lead)
         (turns_in serves.batches)
-    pub survives : SurvivesStop faults honest terms history committed clean may_find given old new
+    pub survives : SurvivesStop faults honest terms history committed clean may_find old new

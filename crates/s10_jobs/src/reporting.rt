@@ -5,13 +5,12 @@ ghost use Rattle.s10_jobs.specs.Reporting.{report_lines, PrintsReport};
 ghost use Rattle.std.specs.Prelude.{IfOk};
 
 use crate::answer_line::write_faulted;
-use crate::day::day_or_today;
+use crate::days::{Days, next_day};
 use crate::job_status::JobStatus;
 use s10_book::Book;
 use s10_lines::{WriteFault, write_text};
 use s10_reports::{ReportFault, write_issues, write_ranges};
 use std::io::Write;
-use std::time::Clock;
 
 /// A report of a ledger.
 #[derive(Clone, Copy, Debug, PartialEq, Eq)]
@@ -23,23 +22,24 @@ pub enum Report {
 }
 
 impl Report {
-    ghost use Rattle.std.specs.Prelude.{◌≡◌, ℕ, true, false, Some, IfSome};
+    ghost use Rattle.std.specs.Prelude.{◌≡◌, ℕ, true, false, Option, Some, option_map};
+    ghost use Rattle.s10_jobs.specs.Days.{IsTaken};
 
     /// Returns the report of the issues, or that of the ranges on a day.
     ///
-    /// The clock is read only for the ranges, if no day is given. Returns `None` if the clock gives
-    /// no day.
-    pub fn new<C: Clock>(clock: &C, is_of_issues: bool, day: Option<u32>) -> Option<Report>
-        ensures issues { is_of_issues ≡ true → result ≡ Some Report.Issues }
-        ensures ranges { (d : ℕ) → is_of_issues ≡ false → day ≡ Some d
-            → result ≡ Some (Report.Ranges d) }
-        ensures of_a_day { is_of_issues ≡ false
-            → IfSome result (λ r. (d : ℕ) × (r ≡ Report.Ranges d)) }
+    /// The source of days is asked only for the ranges, if no day is given. Returns `None` if it
+    /// gives no day.
+    pub fn new<D: Days>(days: &mut D, is_of_issues: bool, day: Option<u32>) -> Option<Report>
+        ensures issues { is_of_issues ≡ true → (result ≡ Some Report.Issues)
+            × (days.new ≡ days.old) }
+        ensures ranges { is_of_issues ≡ false → (taken : Option ℕ)
+            × IsTaken D.gives day taken days.old days.new
+            × (result ≡ option_map (λ (d : ℕ). Report.Ranges d) taken) }
     {
         if is_of_issues {
             return Some(Report::Issues);
         }
-        let day = day_or_today(clock, day)?;
+        let day = next_day(days, day)?;
         Some(Report::Ranges { day })
     }
 }

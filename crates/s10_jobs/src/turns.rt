@@ -3,12 +3,13 @@
 ghost use Rattle.std.specs.Prelude.{◌≡◌, ◌≢◌, ◌≤◌, ℕ, None, Ok, OnOk};
 ghost use Rattle.std.specs.List.{flat_map};
 ghost use Rattle.std.specs.Io.KnownBytes.{Appends};
+ghost use Rattle.s10_link.specs.Link.{LeadsTo};
 ghost use Rattle.s10_ends.specs.Server.{book_of};
 ghost use Rattle.s10_ends.specs.Batch.{ServesBatch};
 ghost use Rattle.s10_jobs.specs.TurnLines.{turn_line};
 ghost use Rattle.s10_jobs.specs.Serving.{ServesTurns, PrintsBatch};
 
-use crate::day::day_or_today;
+use crate::days::{Days, next_day};
 use crate::failures::fail_by_clock;
 use crate::job_status::JobStatus;
 use crate::turn_line::write_turn;
@@ -18,7 +19,6 @@ use s10_lines::WriteFault;
 use s10_link::Link;
 use std::alloc::Global;
 use std::io::Write;
-use std::time::Clock;
 
 /// The maximum number of datagrams in one batch.
 const MAX_BATCH: u32 = 64;
@@ -33,31 +33,33 @@ const MAX_BATCH: u32 = 64;
 /// From the first batch to the last, each distinct request that arrived is applied once, in order
 /// of first arrival, and the call of each reply that was sent is committed.
 ///
-/// If no day is given, the clock is read once before each batch. If it gives no day, the turns end
-/// with the line `clock`. The status is `Done`, or `Failed` after `clock`.
+/// If no day is given, the source of days is asked once before each batch. If it gives no day, the
+/// turns end with the line `clock`. The status is `Done`, or `Failed` after `clock`.
 ///
 /// # Errors
 ///
 /// `WriteFault` if the writer fails. A batch whose lines fail was served, and part of them may be
 /// written.
-pub fn serve_turns<R: Clock + Eprint, B: GroupCommit, L: Link, W: Write>(
+pub fn serve_turns<R: Eprint, B: GroupCommit, L: Link, D: Days, W: Write>(
     rt: &R,
     alloc: Global,
     server: &mut Server<B>,
     link: &mut L,
+    days: &mut D,
     count: u32,
     day: Option<u32>,
     out: &mut W,
 ) -> Result<JobStatus, WriteFault>
     ensures turns { ServesTurns B.faults B.honest B.terms B.history B.committed B.clean B.may_find
-        day
+        D.gives day
         (L.trace_of link.old, book_of server.old) (L.trace_of link.new, book_of server.new)
-        (W.contents out.old) (W.contents out.new) count result }
+        days.old days.new (W.contents out.old) (W.contents out.new) count result }
     ensures given { day ≢ None → result ≢ Ok JobStatus.Failed }
+    ensures led { LeadsTo L.step link.old link.new }
 {
     let mut done = 0;
     while done < count {
-        let Some(today) = day_or_today(rt, day) else {
+        let Some(today) = next_day(days, day) else {
             return fail_by_clock(out);
         };
         let most = (count - done).min(MAX_BATCH);
@@ -78,10 +80,11 @@ fn serve_batched<R: Eprint, B: GroupCommit, L: Link, W: Write>(
     out: &mut W,
 ) -> Result<u32, WriteFault>
     requires { 1 ≤ most }
-    ensures { PrintsBatch (λ turns. (room : ℕ) × ServesBatch B.faults B.honest B.terms B.history
+    ensures printed { PrintsBatch (λ turns. (room : ℕ) × ServesBatch B.faults B.honest B.terms B.history
         B.committed B.clean B.may_find day room
         (L.trace_of link.old, book_of server.old) (L.trace_of link.new, book_of server.new) turns)
         most (W.contents out.old) (W.contents out.new) result }
+    ensures led { LeadsTo L.step link.old link.new }
 {
     match serve_batch(alloc, server, link, day, most) {
         Ok(turns) => {

@@ -8,7 +8,7 @@ use Rattle.s10_lines.specs.Lines.{line_of}
 use Rattle.s10_link.specs.declared.peer.Peer.{Peer}
 use Rattle.s10_link.specs.Peer.{SpellsPeer}
 use Rattle.s10_link.specs.Trace.{new_trace}
-use Rattle.s10_ends.specs.UdpLink.{BoundLink}
+use Rattle.s10_ends.specs.UdpLink.{BoundLink, IsBoundAt}
 use Rattle.s10_ends.specs.Client.{ClientState, new_client}
 use Rattle.s10_ends.specs.Calls.{Calls}
 use Rattle.s10_ends.specs.declared.call_fault.CallFault.{CallFault}
@@ -20,6 +20,10 @@ use Rattle.s10_jobs.specs.Asked.{asked_status, asked_line}
 use Rattle.s10_jobs.specs.Lines.{refused_line}
 use Rattle.s10_jobs.specs.Questions.{refusal_words, WordsAsk, IsQuestionRefusal}
 
+-- Any address of this machine, with a port that the system picks.
+abbrev pub any_address : Peer
+any_address = record { ip = 0 ∷ 0 ∷ 0 ∷ 0 ∷ []; port = 0 }
+
 -- No call was made: the first text that cannot be read is refused; otherwise no socket was bound.
 abbrev pub IsUnasked : Question → JobStatus → List ℕ → Type 0
 IsUnasked question status line =
@@ -29,9 +33,11 @@ IsUnasked question status line =
     × (status ≡ Failed) × (line ≡ line_of (codes "link") (codes "bind" ∷ [])))
 
 -- The words were asked in one call of a new client of the customer, with the question's number.
--- That is all that this link carried. The line was written unless the writer failed.
+-- That is all that this link carried, which is bound at any address of this machine. The line was
+-- written unless the writer failed.
 pub record IsAsked (question : Question) (link : BoundLink) (old new : Option (List ℕ))
     (result : Result JobStatus WriteFault) : Type 0 where
+  pub at : IsBoundAt any_address link.at
   pub to : Peer
   pub body : Body
   pub peer : SpellsPeer question.to.now to

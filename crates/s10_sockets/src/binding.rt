@@ -1,7 +1,9 @@
 //! Binds a socket and makes it a link.
 
 ghost use Rattle.std.specs.Prelude.{◌≡◌, IfOk, IfErr};
+ghost use Rattle.s10_ends.specs.UdpLink.{IsBoundAt};
 ghost use Rattle.s10_link.specs.Trace.{new_trace};
+ghost use Rattle.s10_sockets.specs.Questioning.{any_address};
 
 use s10_ends::UdpLink;
 use s10_link::{LinkFault, Peer};
@@ -10,6 +12,12 @@ use std::net::{Ipv4Addr, Net, SocketAddr, SocketAddrV4, UdpSocket};
 /// The maximum wait of a receive in milliseconds, at a server and at a client.
 const WAIT: u32 = 1_000;
 
+/// Any address of this machine, with a port that the system picks.
+const ANY_ADDRESS: Peer = Peer {
+    ip: [0, 0, 0, 0],
+    port: 0,
+};
+
 /// Binds a link to an address. If that fails, standard error has the reason.
 ///
 /// # Errors
@@ -17,6 +25,7 @@ const WAIT: u32 = 1_000;
 /// `Bind` if the address cannot be bound.
 pub fn bind_link<R: Net + Eprint>(rt: &R, at: Peer) -> Result<UdpLink, LinkFault>
     ensures ok { IfOk result (λ link. link.trace ≡ new_trace) }
+    ensures at { IfOk result (λ link. IsBoundAt at link.at) }
     ensures refused { IfErr result (λ fault. fault ≡ LinkFault.Bind) }
 {
     match UdpLink::bind(rt, at, WAIT) {
@@ -26,6 +35,19 @@ pub fn bind_link<R: Net + Eprint>(rt: &R, at: Peer) -> Result<UdpLink, LinkFault
             Err(fault)
         }
     }
+}
+
+/// Binds a client's link to any address of this machine, with a port that the system picks.
+///
+/// # Errors
+///
+/// `Bind` if no socket can be bound. Standard error has the reason.
+pub fn bind_client<R: Net + Eprint>(rt: &R) -> Result<UdpLink, LinkFault>
+    ensures ok { IfOk result (λ link. link.trace ≡ new_trace) }
+    ensures at { IfOk result (λ link. IsBoundAt any_address link.at) }
+    ensures refused { IfErr result (λ fault. fault ≡ LinkFault.Bind) }
+{
+    bind_link(rt, ANY_ADDRESS)
 }
 
 // Binds again, because only the error of the system has the reason in words.

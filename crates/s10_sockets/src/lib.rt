@@ -6,7 +6,7 @@ mod loop_calls;
 mod questioning;
 mod serving;
 
-pub use binding::bind_link;
+pub use binding::{bind_client, bind_link};
 pub use loop_calls::make_calls;
-pub use questioning::run_question;
+pub use questioning::ask_question;
 pub use serving::serve_at;

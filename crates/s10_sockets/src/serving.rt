@@ -1,6 +1,7 @@
 //! Serves a book over a socket of its own.
 
 ghost use Rattle.std.specs.Prelude.{◌≡◌, None, IfSome};
+ghost use Rattle.s10_ends.specs.UdpLink.{IsBoundAt};
 ghost use Rattle.s10_link.specs.Trace.{new_trace};
 ghost use Rattle.s10_jobs.specs.Serving.{ServesTurns};
 ghost use Rattle.s10_sockets.specs.Unbound.{IsUnbound};
@@ -8,41 +9,44 @@ ghost use Rattle.s10_sockets.specs.Unbound.{IsUnbound};
 use crate::binding::bind_link;
 use s10_book::GroupCommit;
 use s10_ends::{Server, UdpLink};
-use s10_jobs::{JobStatus, fail_by_link, serve_turns};
+use s10_jobs::{Days, JobStatus, fail_by_link, serve_turns};
 use s10_lines::WriteFault;
 use s10_link::Peer;
 use std::alloc::Global;
 use std::io::Write;
 use std::net::Net;
-use std::time::Clock;
 
 /// Serves `count` turns of a book at an address, and returns the status and the book.
 ///
 /// Also returns the link, or `None` if the address cannot be bound. Standard error has the address
-/// that is served, or the reason why it cannot be bound. If no day is given, it is the clock's.
+/// that is served, or the reason why it cannot be bound. If no day is given, each batch takes the
+/// next day of the source.
 ///
 /// # Errors
 ///
 /// The first component is `WriteFault` if the writer fails. The book is returned in every case.
-pub fn serve_at<R, B, W>(
+pub fn serve_at<R, B, D, W>(
     rt: &R,
     alloc: Global,
     at: Peer,
     book: B,
+    days: &mut D,
     count: u32,
     day: Option<u32>,
     out: &mut W,
 ) -> (Result<JobStatus, WriteFault>, Option<UdpLink>, B)
 where
-    R: Net + Clock + Eprint,
+    R: Net + Eprint,
     B: GroupCommit,
+    D: Days,
     W: Write,
     ensures unbound { result.1 ≡ None → IsUnbound book result.2 (W.contents out.old)
-        (W.contents out.new) result.0 }
+        (W.contents out.new) result.0 × (days.new ≡ days.old) }
     ensures served { IfSome result.1
-        (λ link. ServesTurns B.faults B.honest B.terms B.history B.committed B.clean B.may_find day
-        (new_trace, book) (link.trace, result.2)
+        (λ link. ServesTurns B.faults B.honest B.terms B.history B.committed B.clean B.may_find D.gives
+        day (new_trace, book) (link.trace, result.2) days.old days.new
         (W.contents out.old) (W.contents out.new) count result.0) }
+    ensures at { IfSome result.1 (λ link. IsBoundAt at link.at) }
 {
     let mut link = match bind_link(rt, at) {
         Ok(link) => link,
@@ -50,7 +54,7 @@ where
     };
     eprint_address(rt, link.local());
     let mut server = Server::new(book);
-    let served = serve_turns(rt, alloc, &mut server, &mut link, count, day, out);
+    let served = serve_turns(rt, alloc, &mut server, &mut link, days, count, day, out);
     (served, Some(link), server.into_book())
 }
 

@@ -3,13 +3,14 @@
 use crate::expect::holds;
 use s10_cli::parse_job;
 use s10_host::run_job;
-use s10_jobs::{Job, JobStatus};
+use s10_jobs::{ClockDays, Job, JobStatus};
 use sqlite::Unknown;
 
 /// Returns whether a job ends with this status and prints this line.
 fn is_ended(rt: &HostRuntime, job: &Job<'_>, status: JobStatus, line: &str) -> bool {
     let mut output = Vec::new(rt.alloc());
-    let (ended, _left) = run_job(rt, job, Unknown, &mut output);
+    let mut days = ClockDays { clock: rt };
+    let (ended, _left) = run_job(rt, job, Unknown, &mut days, &mut output);
     ended == Ok(status) && output.as_slice() == line.as_bytes()
 }
 

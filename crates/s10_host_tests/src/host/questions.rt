@@ -2,11 +2,11 @@
 
 use crate::expect::holds;
 use crate::host::refusing::Refusing;
-use s10_jobs::{BodyWords, JobStatus, Question, Tries};
+use s10_host::run_job;
+use s10_jobs::{BodyWords, ClockDays, Job, JobStatus, Question, Tries};
 use s10_lines::WriteFault;
-use s10_sockets::run_question;
+use sqlite::Unknown;
 use std::io::Write;
-use std::net::Net;
 
 /// What customer 7 or the post asks.
 #[derive(Clone, Copy)]
@@ -98,20 +98,21 @@ const CASES: &[(&str, Asked, JobStatus, &str)] = &[
 ];
 
 /// Asks a question and returns its result.
-fn answer_of<R: Net + Eprint, W: Write>(
-    rt: &R,
-    question: &Question<'_>,
+fn answer_of<W: Write>(
+    rt: &HostRuntime,
+    question: Question<'_>,
     out: &mut W,
 ) -> Result<JobStatus, WriteFault> {
-    let (done, _link) = run_question(rt, question, out);
+    let mut days = ClockDays { clock: rt };
+    let (done, _left) = run_job(rt, &Job::Ask(question), Unknown, &mut days, out);
     done
 }
 
 /// Returns whether a question ends with this status and prints this line, and fails if the writer
 /// accepts nothing.
-fn is_reported<R: Net + Eprint + AllocGlobal>(
-    rt: &R,
-    question: &Question<'_>,
+fn is_reported(
+    rt: &HostRuntime,
+    question: Question<'_>,
     status: JobStatus,
     line: &str,
 ) -> bool {
@@ -122,8 +123,8 @@ fn is_reported<R: Net + Eprint + AllocGlobal>(
 }
 
 /// Returns the same for the question with number 1 of customer 7 or of the post.
-fn asked_is_reported<R: Net + Eprint + AllocGlobal>(
-    rt: &R,
+fn asked_is_reported(
+    rt: &HostRuntime,
     to: &str,
     asked: Asked,
     status: JobStatus,
@@ -141,7 +142,7 @@ fn asked_is_reported<R: Net + Eprint + AllocGlobal>(
         body,
         tries: Tries::new(1).unwrap(),
     };
-    is_reported(rt, &question, status, line)
+    is_reported(rt, question, status, line)
 }
 
 #[test]

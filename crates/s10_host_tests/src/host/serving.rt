@@ -3,7 +3,7 @@
 use s10_book::PlainBook;
 use s10_ends::UdpLink;
 use s10_history::Settings;
-use s10_jobs::JobStatus;
+use s10_jobs::{ClockDays, JobStatus};
 use s10_lines::WriteFault;
 use s10_link::Peer;
 use s10_sockets::serve_at;
@@ -24,7 +24,9 @@ fn served_at<R: Net + Clock + Eprint + AllocGlobal, W: Write>(
     out: &mut W,
 ) -> Result<JobStatus, WriteFault> {
     let book = PlainBook::new(rt.alloc(), Settings::new(30, 2).unwrap());
-    let (served, _link, _book) = serve_at(rt, rt.alloc(), at, book, count, Some(20_000), out);
+    let mut days = ClockDays { clock: rt };
+    let day = Some(20_000);
+    let (served, _link, _book) = serve_at(rt, rt.alloc(), at, book, &mut days, count, day, out);
     served
 }
 

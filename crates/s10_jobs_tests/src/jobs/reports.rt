@@ -6,7 +6,7 @@ use crate::jobs::refusing::Refusing;
 use s10_book::{Book, PlainBook, TripBook};
 use s10_ends::Server;
 use s10_history::Settings;
-use s10_jobs::{JobStatus, Report, write_report};
+use s10_jobs::{ClockDays, JobStatus, Report, write_report};
 use s10_lines::WriteFault;
 use std::alloc::Global;
 use std::io::Write;
@@ -64,7 +64,7 @@ const REPORTS: &[(bool, &str)] = &[(false, RANGES), (true, ISSUES)];
 #[test]
 fn reports_are_written_whole(rt: HostRuntime) {
     for (is_of_issues, text) in REPORTS {
-        let report = Report::new(&rt, *is_of_issues, Some(20_000)).expect(&rt, "a day");
+        let report = Report::new(&mut ClockDays { clock: &rt }, *is_of_issues, Some(20_000)).expect(&rt, "a day");
         is_done(&rt, one_issue(rt.alloc()), report, text);
     }
 }
@@ -92,14 +92,14 @@ fn a_withdrawn_range_is_reported_as_closed(rt: HostRuntime) {
 
 /// Returns whether a report of ranges has the day that is given, or that of the clock if none is.
 fn has_its_day<R: Clock>(rt: &R) -> bool {
-    Report::new(rt, false, Some(7)) == Some(Report::Ranges { day: 7 })
-        && Report::new(rt, false, None).is_some()
+    Report::new(&mut ClockDays { clock: rt }, false, Some(7)) == Some(Report::Ranges { day: 7 })
+        && Report::new(&mut ClockDays { clock: rt }, false, None).is_some()
 }
 
 /// Returns whether a report of issues has no day.
 fn has_no_day<R: Clock>(rt: &R) -> bool {
-    Report::new(rt, true, Some(7)) == Some(Report::Issues)
-        && Report::new(rt, true, None) == Some(Report::Issues)
+    Report::new(&mut ClockDays { clock: rt }, true, Some(7)) == Some(Report::Issues)
+        && Report::new(&mut ClockDays { clock: rt }, true, None) == Some(Report::Issues)
 }
 
 #[test]

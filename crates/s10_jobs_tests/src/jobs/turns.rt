@@ -6,7 +6,7 @@ use crate::links::{Meets, link_of};
 use s10_book::{Book, GroupCommit, PlainBook};
 use s10_ends::Server;
 use s10_history::Settings;
-use s10_jobs::{JobStatus, day_or_today, serve_turns, today};
+use s10_jobs::{ClockDays, Days, JobStatus, next_day, serve_turns, today};
 use s10_lines::WriteFault;
 use s10_link::{Link, Peer};
 use std::alloc::Global;
@@ -190,7 +190,17 @@ fn are_as_expected<R: Clock + Eprint, B: GroupCommit, L: Link>(
         bytes: Vec::new(alloc),
         lines: 0,
     };
-    let served = serve_turns(rt, alloc, server, link, turns.count, turns.day, &mut out);
+    let mut days = ClockDays { clock: rt };
+    let served = serve_turns(
+        rt,
+        alloc,
+        server,
+        link,
+        &mut days,
+        turns.count,
+        turns.day,
+        &mut out,
+    );
     has_lines(out, turns) && served == Ok(turns.status)
 }
 
@@ -353,9 +363,62 @@ fn a_clock_that_gives_no_day_ends_the_turns(rt: HostRuntime) {
 /// Returns whether this is the day of a clock `seconds` after 1970 began, if no day is given.
 fn is_day_after(seconds: u64, day: Option<u32>) -> bool {
     let clock = Standing(Some(Duration::from_secs(seconds)));
+    let mut days = ClockDays { clock: &clock };
     today(&clock) == day
-        && day_or_today(&clock, None) == day
-        && day_or_today(&clock, Some(7)) == Some(7)
+        && next_day(&mut days, None) == day
+        && next_day(&mut days, Some(7)) == Some(7)
+}
+
+/// A clock that is a day further at each reading of the time of day. Its monotonic time is another
+/// number.
+#[derive(Drop)]
+struct Stepping {
+    day: RefCell<u64>,
+}
+
+impl Clock for Stepping {
+    fn monotonic(&self) -> io::Result<Duration> {
+        Ok(Duration::from_secs(7))
+    }
+
+    fn since_1970(&self) -> io::Result<Duration> {
+        let Ok(mut day) = self.day.try_borrow_mut() else {
+            return Err(io::Error::from(io::ErrorKind::Other));
+        };
+        let seconds = day.saturating_mul(86_400);
+        *day = day.saturating_add(1);
+        Ok(Duration::from_secs(seconds))
+    }
+}
+
+/// Returns whether the last call of seven turns in four batches has the day of the fourth reading
+/// of a clock, the first of which gives day 20,000.
+fn has_the_day_of_its_batch<R: Eprint>(rt: &R, alloc: Global) -> bool {
+    let Ok(mut link) = link_of(alloc, SEVEN, THREE_SENDS) else {
+        return false;
+    };
+    let clock = Stepping {
+        day: RefCell::new(20_000),
+    };
+    let mut days = ClockDays { clock: &clock };
+    let mut server = new_server(alloc);
+    let mut out = Vec::new(alloc);
+    let served = serve_turns(
+        rt,
+        alloc,
+        &mut server,
+        &mut link,
+        &mut days,
+        7,
+        None,
+        &mut out,
+    );
+    served == Ok(JobStatus::Done) && server.book().day() == 20_003 && days.next() == Some(20_004)
+}
+
+#[test]
+fn each_batch_reads_the_day_once(rt: HostRuntime) {
+    assert!(rt; has_the_day_of_its_batch(&rt, rt.alloc()));
 }
 
 /// Seconds since 1970 began, and the day.
@@ -374,7 +437,8 @@ fn days_are_whole_days_since_1970(rt: HostRuntime) {
         holds(&rt, seconds, is_day_after(*seconds, *day));
     }
     let clock = Standing(None);
-    assert!(rt; today(&clock).is_none() && day_or_today(&clock, Some(7)) == Some(7));
+    let mut days = ClockDays { clock: &clock };
+    assert!(rt; today(&clock).is_none() && next_day(&mut days, Some(7)) == Some(7));
     assert!(rt; today(&rt).is_some());
 }
 
@@ -393,7 +457,17 @@ fn end_where_unwritten<R: Clock + Eprint, B: GroupCommit, L: Link>(
     room: usize,
 ) -> bool {
     let mut out = Hiccup::new(alloc, room);
-    let served = serve_turns(rt, alloc, server, link, 7, Some(20_000), &mut out);
+    let mut days = ClockDays { clock: rt };
+    let served = serve_turns(
+        rt,
+        alloc,
+        server,
+        link,
+        &mut days,
+        7,
+        Some(20_000),
+        &mut out,
+    );
     has_beginning(out, room) && served == Err(WriteFault)
 }
 

@@ -4,6 +4,8 @@ use Rattle.s10_ends.specs.declared.exchange.Exchange.{Exchange}
 use Rattle.s10_ends.proofs.Batches.{turns_some, turns_few}
 use Rattle.s10_ends.proofs.ReceiveCount.{batch_receives}
 use Rattle.s10_ends.proofs.Standing.{batch_stands}
+use Rattle.s10_link.specs.Link.LeadsTo.{none}
+use Rattle.s10_link.proofs.Led.{led_on}
 use Rattle.s10_ends.proofs.batch.serve_batch.Goals as goal
 
 one_more_fits : (most : ℕ) → Fits w32 most → Fits w64 (most + 1)
@@ -131,3 +133,12 @@ returns-in_err-turns-clause-refused g c =
 
 pub returns-clause-refused : goal.returns-clause-refused
 returns-clause-refused g c = tt
+
+pub returns-clause-led : goal.returns-clause-led
+returns-clause-led g c = led_on c.receive_batch-ended.ensures.led c.commit_and_reply.ensures.led
+
+pub returns-in_err-taken-clause-led : goal.returns-in_err-taken-clause-led
+returns-in_err-taken-clause-led g c = none
+
+pub returns-in_err-turns-clause-led : goal.returns-in_err-turns-clause-led
+returns-in_err-turns-clause-led g c = none

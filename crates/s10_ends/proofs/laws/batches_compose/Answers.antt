@@ -2,5 +2,5 @@ use Rattle.s10_ends.proofs.Composing.{all_composed}
 use Rattle.s10_ends.proofs.laws.batches_compose.Goals as goal
 
 pub returns : goal.returns
-returns g c = λ given. all_composed g.B.Book.faults g.B.Book.honest g.B.Book.terms g.B.Book.history
-    g.B.Book.committed g.B.Book.clean g.B.Book.may_find given g.met.B.Book.legal
+returns g c = all_composed g.B.Book.faults g.B.Book.honest g.B.Book.terms g.B.Book.history
+    g.B.Book.committed g.B.Book.clean g.B.Book.may_find g.met.B.Book.legal

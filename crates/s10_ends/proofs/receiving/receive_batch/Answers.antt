@@ -4,6 +4,7 @@ use Rattle.s10_ends.proofs.Filling.{room_for_next, room_for_first, room_kept, on
 use Rattle.s10_ends.proofs.Filling.{one_pushed, first_pushed, few_of_none, fewer, no_more_than}
 use Rattle.s10_ends.proofs.Filling.{all_held}
 use Rattle.s10_ends.proofs.Batches.{taken_all, one_more, no_more, failed}
+use Rattle.s10_link.proofs.Led.{led_on}
 use Rattle.s10_ends.proofs.receiving.receive_batch.Goals as goal
 
 held_few : (held index most : ℕ) → held ≡ index → index ≤ most → held ≤ most
@@ -59,19 +60,20 @@ loop-more-init g c = record {
   count = rw (c.push_reserved.ensures.items, c.requires.none) refl;
   takes = rw (c.push_reserved.ensures.items, c.requires.none) (one_more _ c.args.most _ _ [] none _
       c.in_ok-first.field-0 c.in-Some.first c.in_ok-first.ensures.takes c.in-Some.is);
+  led = c.in_ok-first.ensures.led;
 }
 
 pub returns-in_err-next-clause-taken : goal.returns-in_err-next-clause-taken
 returns-in_err-next-clause-taken g c = failed _ c.args.most _ _ _ c.loop-more.invariant.takes _
     c.in_err-next.field-0.0 c.from_residual-in_err-next.result
     (fewer _ c.loop-more._more c.args.most c.loop-more.invariant.count c.loop-more-test.true)
-    c.in_err-next.ensures c.from_residual-in_err-next.ensures.1
+    c.in_err-next.ensures.takes c.from_residual-in_err-next.ensures.1
 
 pub returns-in_default-2-clause-taken : goal.returns-in_default-2-clause-taken
 returns-in_default-2-clause-taken g c = no_more _ c.args.most _ _ _ c.loop-more.invariant.takes _
     c.in_ok-next.field-0
     (fewer _ c.loop-more._more c.args.most c.loop-more.invariant.count c.loop-more-test.true)
-    c.in_ok-next.ensures c.in_default-2.is
+    c.in_ok-next.ensures.takes c.in_default-2.is
 
 pub loop-more-preserved : goal.loop-more-preserved
 loop-more-preserved g c = record {
@@ -83,10 +85,20 @@ loop-more-preserved g c = record {
       c.loop-more.invariant.count c.push_reserved-in-loop-more.ensures.items;
   takes = rw c.push_reserved-in-loop-more.ensures.items
       (one_more _ c.args.most _ _ _ c.loop-more.invariant.takes _ c.in_ok-next.field-0
-      c.in-Some-2.next c.in_ok-next.ensures c.in-Some-2.is);
+      c.in-Some-2.next c.in_ok-next.ensures.takes c.in-Some-2.is);
+  led = led_on c.loop-more.invariant.led c.in_ok-next.ensures.led;
 }
 
 pub returns-clause-taken : goal.returns-clause-taken
 returns-clause-taken g c = taken_all _ c.args.most _ _ _ c.loop-more.invariant.takes
     (all_held _ c.loop-more._more c.args.most c.loop-more.invariant.count
     (c.loop-more.auto._more-end c.requires.some) c.loop-more-test.false)
+
+pub returns-clause-led : goal.returns-clause-led
+returns-clause-led g c = c.loop-more.invariant.led
+
+pub returns-in_err-next-clause-led : goal.returns-in_err-next-clause-led
+returns-in_err-next-clause-led g c = led_on c.loop-more.invariant.led c.in_err-next.ensures.led
+
+pub returns-in_default-2-clause-led : goal.returns-in_default-2-clause-led
+returns-in_default-2-clause-led g c = led_on c.loop-more.invariant.led c.in_ok-next.ensures.led

@@ -1,5 +1,6 @@
 use Rattle.std.proofs.Common.{◌≡◌, ◌≤◌, length}
 use Rattle.std.specs.Prelude.{vec_len, vec_capacity}
+use Rattle.s10_link.specs.Link.{LeadsTo}
 use Rattle.s10_ends.specs.Turn.{Handles}
 use Rattle.s10_ends.specs.Batch.{ReceivesAll}
 use Rattle.s10_ends.proofs.receiving.receive_batch.Given as goal
@@ -17,4 +18,5 @@ invariant-loop-more g l = record {
         g.L.Link.trace_of l.link,
         l.server.book,
       );
+  led : LeadsTo g.L.Link.step l.fn.link l.link;
 }

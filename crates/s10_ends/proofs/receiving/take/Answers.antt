@@ -1,6 +1,7 @@
 use Rattle.std.proofs.Common.{refl}
 use Rattle.s10_ends.specs.Turn.{Handles}
 use Rattle.s10_ends.proofs.Turns.{taken_with, quiet_is, failed_take}
+use Rattle.s10_link.proofs.Led.{led_once}
 use Rattle.s10_ends.proofs.receiving.take.Goals as goal
 
 pub returns-in_err-from-clause-takes : goal.returns-in_err-from-clause-takes
@@ -35,3 +36,12 @@ returns-in_default-clause-whole g c = λ lasting h whole. whole
 
 pub returns-clause-whole : goal.returns-clause-whole
 returns-clause-whole g c = c.handle_packet-answer.ensures.whole
+
+pub returns-in_err-from-clause-led : goal.returns-in_err-from-clause-led
+returns-in_err-from-clause-led g c = led_once c.receive.ensures.step
+
+pub returns-in_default-clause-led : goal.returns-in_default-clause-led
+returns-in_default-clause-led g c = led_once c.receive.ensures.step
+
+pub returns-clause-led : goal.returns-clause-led
+returns-clause-led g c = led_once c.receive.ensures.step

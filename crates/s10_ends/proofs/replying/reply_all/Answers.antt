@@ -3,6 +3,8 @@ use Rattle.std.proofs.lemmas.List.{take_more}
 use Rattle.s10_ends.specs.declared.exchange.Exchange.{Exchange}
 use Rattle.s10_ends.specs.Batch.AnswersAll.{none, more}
 use Rattle.s10_ends.proofs.Filling.{room_for_next, room_kept, one_longer, none_held, all_filled}
+use Rattle.s10_link.proofs.Led.{led_on}
+use Rattle.s10_link.specs.Link.LeadsTo.{none as led_none}
 use Rattle.s10_ends.proofs.replying.reply_all.Goals as goal
 
 pub loop-next-init : goal.loop-next-init
@@ -11,6 +13,7 @@ loop-next-init g c = record {
   capacity = refl;
   many = none_held c.args.turns.now.items _ c.args.turns.now.ok.0 c.requires.none;
   answers = rw c.requires.none none;
+  led = led_none;
 }
 
 pub loop-next-preserved : goal.loop-next-preserved
@@ -26,7 +29,8 @@ loop-next-preserved g c =
       capacity = c.push_reserved.ensures.capacity ∙ before.capacity;
       many = one_longer _ _ c.loop-next.next-index before.many c.push_reserved.ensures.len;
       answers = rw (all, c.push_reserved.ensures.items)
-          (more c.next-item.result c.answer-turn.result before.answers c.answer-turn.ensures);
+          (more c.next-item.result c.answer-turn.result before.answers c.answer-turn.ensures.answers);
+      led = led_on before.led c.answer-turn.ensures.led;
     }
 
 pub push_reserved-requires : goal.push_reserved-requires
@@ -44,3 +48,6 @@ returns-clause-many g c = all_filled _ _ c.loop-next.next-index _ c.loop-next.tu
 
 pub returns-clause-capacity : goal.returns-clause-capacity
 returns-clause-capacity g c = c.loop-next.invariant.capacity
+
+pub returns-clause-led : goal.returns-clause-led
+returns-clause-led g c = c.loop-next.invariant.led

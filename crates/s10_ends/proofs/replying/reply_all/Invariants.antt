@@ -1,5 +1,6 @@
 use Rattle.std.proofs.Common.{◌≡◌, ◌≤◌, length, take}
 use Rattle.std.specs.Prelude.{vec_len, vec_capacity}
+use Rattle.s10_link.specs.Link.{LeadsTo}
 use Rattle.s10_ends.specs.Server.{book_of}
 use Rattle.s10_ends.specs.Turn.{AsksCommitted}
 use Rattle.s10_ends.specs.Batch.{AnswersAll}
@@ -15,4 +16,5 @@ invariant-loop-next g l = record {
       (g.B.Book.history (book_of l.fn.server)))
       l.fn.commit_result (g.L.Link.trace_of l.fn.link) (take l.next-index l.taken) l.turns.items
       (g.L.Link.trace_of l.link);
+  led : LeadsTo g.L.Link.step l.fn.link l.link;
 }

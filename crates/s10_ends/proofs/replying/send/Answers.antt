@@ -1,13 +1,20 @@
 use Rattle.std.proofs.Common.{rules, Err}
 use Rattle.s10_ends.proofs.Turns.{same_error}
+use Rattle.s10_link.proofs.Led.{led_once}
 use Rattle.s10_ends.proofs.replying.send.Goals as goal
 
-pub returns-in_err-send : goal.returns-in_err-send
-returns-in_err-send g c = (
+pub returns-in_err-send-clause-sends : goal.returns-in_err-send-clause-sends
+returns-in_err-send-clause-sends g c = (
   Err c.in_err-send.field-0.0,
   c.in_err-send.ensures.trace,
   same_error c.from_residual.result c.in_err-send.field-0.0 c.from_residual.ensures.1,
 )
 
-pub returns : goal.returns
-returns g c = search rules
+pub returns-clause-sends : goal.returns-clause-sends
+returns-clause-sends g c = search rules
+
+pub returns-in_err-send-clause-led : goal.returns-in_err-send-clause-led
+returns-in_err-send-clause-led g c = led_once c.send.ensures.step
+
+pub returns-clause-led : goal.returns-clause-led
+returns-clause-led g c = led_once c.send.ensures.step

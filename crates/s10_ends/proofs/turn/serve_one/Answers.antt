@@ -4,6 +4,7 @@ use Rattle.s10_ends.specs.Turn.{Handles}
 use Rattle.s10_ends.proofs.Turns.{same_error, found_as}
 use Rattle.s10_ends.proofs.Batches.{one_failed, one_quiet, one_committed}
 use Rattle.s10_ends.proofs.Standing.{turn_of_batch}
+use Rattle.s10_link.proofs.Led.{led_on}
 use Rattle.s10_ends.proofs.turn.serve_one.Goals as goal
 
 pub returns-in_err-taken-clause-turn : goal.returns-in_err-taken-clause-turn
@@ -38,7 +39,7 @@ returns-clause-turn g c = record {
       after c.args.day b answer) _ _
       c.in_ok-taken.field-0 (Some c.in-Some.taken) c.in-Some.is
       c.in_ok-taken.ensures.takes;
-  answers = (refl, c.answer_committed.ensures);
+  answers = (refl, c.answer_committed.ensures.answers);
 }
 
 pub returns-in_err-taken-clause-served : goal.returns-in_err-taken-clause-served
@@ -67,7 +68,7 @@ pub returns-clause-served : goal.returns-clause-served
 returns-clause-served g c = λ whole.
     one_committed _ _ _ _ _ _ _ c.args.day _ _ _ c.in_ok-taken.field-0 c.in-Some.taken
     c.answer_committed.result c.in_ok-taken.ensures.takes c.in-Some.is
-    (λ h. c.in_ok-taken.ensures.whole c.requires h (whole h)) c.answer_committed.ensures
+    (λ h. c.in_ok-taken.ensures.whole c.requires h (whole h)) c.answer_committed.ensures.answers
 
 pub returns-clause-whole : goal.returns-clause-whole
 returns-clause-whole g c = λ h whole. c.in_ok-taken.ensures.whole c.requires h whole
@@ -75,3 +76,6 @@ returns-clause-whole g c = λ h whole. c.in_ok-taken.ensures.whole c.requires h 
 pub returns-clause-stands : goal.returns-clause-stands
 returns-clause-stands g c = λ h whole. turn_of_batch _ _ _ _ _ _ _ c.args.day _ _ _
     (returns-clause-served g c (λ _. whole)) h
+
+pub returns-clause-led : goal.returns-clause-led
+returns-clause-led g c = led_on c.in_ok-taken.ensures.led c.answer_committed.ensures.led

@@ -1,4 +1,6 @@
 use Rattle.std.proofs.Common.{◌≡◌, refl}
+use Rattle.s10_ends.specs.UdpLink.{BoundLink, IsBoundAt}
+use Rattle.s10_host.proofs.Opening.{bound_served}
 use Rattle.s10_host.proofs.book_job.run_on_book.Goals as goal
 
 pub returns-in-Create-clause-made : goal.returns-in-Create-clause-made
@@ -8,9 +10,10 @@ pub returns-in-Serve-clause-served : goal.returns-in-Serve-clause-served
 returns-in-Serve-clause-served g c at count day is =
     let turns : c.in-Serve.count ≡ count = cc in
     let given : c.in-Serve.day ≡ day = cc in
-    rw (← turns, ← given, c.into_inner.ensures, ← c.new-batched.ensures) (
-      c.serve_at-done.ensures.unbound,
-      c.serve_at-done.ensures.served,
+    let place : c.in-Serve.at ≡ at = cc in
+    rw (← turns, ← given, ← place, c.into_inner.ensures, ← c.new-batched.ensures) (
+      λ none. (c.serve_at-done.ensures.unbound none).0,
+      bound_served (λ (l : BoundLink). IsBoundAt c.in-Serve.at l.at) _ _ c.serve_at-done.ensures.at c.serve_at-done.ensures.served,
     )
 
 pub returns-in-Report-clause-reported : goal.returns-in-Report-clause-reported

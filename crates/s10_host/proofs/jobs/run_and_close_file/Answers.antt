@@ -43,11 +43,18 @@ returns-in-Refused-clause-worked g c work so =
     let refused = c.in-Refused.refusal in
     let (asked, is, refusal, silent) = c.in-Refused.ensures.refused refused refl in
     rw (← asked_alike c.args.task asked work is so) (
-    refused_over asked c.args.connection refused.connection (g.W.Write.contents c.args.out.now)
+    refused_over g.D.Days.gives asked c.args.days.now c.run_ledger_job.new.days c.args.connection
+    refused.connection (g.W.Write.contents c.args.out.now)
     (g.W.Write.contents c.run_ledger_job.new.out) (g.W.Write.contents c.fail_by_ledger.new.out)
-    refused.fault c.fault_of_refusal.result c.fail_by_ledger.result c.fail_by_ledger.result _ _
-    refusal c.fault_of_refusal.ensures silent c.fail_by_ledger.ensures refl refl refl
+    refused.fault c.fail_by_ledger.result c.close_refused-files.result refusal silent
+    c.fail_by_ledger.ensures c.close_refused-files.ensures.copied
+    c.close_refused-files.ensures.committed
     )
+
+pub close_refused-files-requires : goal.close_refused-files-requires
+close_refused-files-requires g c =
+    let (asked, is, refusal, silent) = c.in-Refused.ensures.refused c.in-Refused.refusal refl in
+    refusal.idle
 
 pub returns-in-Refused-clause-audited : goal.returns-in-Refused-clause-audited
 returns-in-Refused-clause-audited g c so =
@@ -61,7 +68,7 @@ returns-in-Audited-clause-worked g c work so =
 
 pub returns-in-Audited-clause-audited : goal.returns-in-Audited-clause-audited
 returns-in-Audited-clause-audited g c so =
-    let (is, left, found, counted, written, falls) =
+    let (is, left, found, counted, written, undone, quiet) =
     c.in-Audited.ensures.audited c.in-Audited.audited c.in-Audited.store refl in (
       refl,
       c.close.result,
@@ -70,5 +77,11 @@ returns-in-Audited-clause-audited g c so =
       found,
       counted,
       written,
-      left_clean left c.in-Audited.store c.close.result falls c.close.ensures,
+      left_clean left c.in-Audited.store c.close.result quiet.clean c.close.ensures,
+      record {
+        store = c.in-Audited.store;
+        same = c.close.ensures;
+        undone = undone;
+        quiet = quiet;
+      },
     )

@@ -5,17 +5,21 @@ use Rattle.s10_host.proofs.jobs.run_report.Goals as goal
 pub returns-in_default : goal.returns-in_default
 returns-in_default g c =
     let same = c.with_link.ensures.same in
-    no_day _ g.S.Start c.args.is_of_issues c.args.day (g.W.Write.contents c.args.out.now)
+    no_day _ g.S.Start g.D.Days.gives c.args.is_of_issues c.args.day c.args.days.now c.new.new.days
+    (g.W.Write.contents c.args.out.now)
     (g.W.Write.contents c.fail_by_clock.new.out) c.fail_by_clock.result c.with_link.result.0
     c.with_link.result.1.files
-    (no_report c.args.is_of_issues c.args.day c.new.result c.in_default.is c.new.ensures.issues
+    (no_report g.D.Days.gives c.args.day c.args.days.now c.new.new.days c.args.is_of_issues
+    c.new.result c.in_default.is c.new.ensures.issues
     c.new.ensures.ranges) c.fail_by_clock.ensures same.0 same.2
 
 pub returns : goal.returns
 returns g c =
-    let asked = asked_for c.args.is_of_issues c.args.day c.new.result c.in-Some.report c.in-Some.is
-    c.new.ensures.issues c.new.ensures.ranges c.new.ensures.of_a_day in
-    reported_in _ g.S.Start c.args.is_of_issues c.args.day c.in-Some.report
+    let asked = asked_for g.D.Days.gives c.args.day c.args.days.now c.new.new.days
+    c.args.is_of_issues c.new.result c.in-Some.report c.in-Some.is
+    c.new.ensures.issues c.new.ensures.ranges in
+    reported_in _ g.S.Start g.D.Days.gives c.args.is_of_issues c.args.day c.args.days.now
+    c.new.new.days c.run_on_file.new.days c.in-Some.report
     (g.W.Write.contents c.args.out.now) (g.W.Write.contents c.run_on_file.new.out)
     c.run_on_file.result.0 c.run_on_file.result.1.files c.run_on_file.result.1.link asked
     (c.run_on_file.ensures.worked _ refl)

@@ -12,7 +12,8 @@ returns-in-Audit-clause-audited g c done store is =
       found.0,
       found.1,
       found.2,
-      c.into_store.ensures.quiet.clean,
+      c.into_store.ensures.undone,
+      c.into_store.ensures.quiet,
     )
 
 pub returns-in-Ok-clause-worked : goal.returns-in-Ok-clause-worked

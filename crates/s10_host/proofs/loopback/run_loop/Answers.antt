@@ -1,17 +1,21 @@
-use Rattle.std.proofs.Common.{rules, ◌≡◌, List, [], ◌++◌, append-nil, subst, ap, ◌∙◌}
+use Rattle.std.proofs.Common.{rules, ◌≡◌, List, [], ◌++◌, append-nil, subst, sym, ap, ◌∙◌}
 use Rattle.sqlite_trees.specs.declared.memory.MemStore.{MemStore}
 use Rattle.sqlite.specs.Steps.{over_memory}
 use Rattle.s10_history.specs.declared.entry.Entry.{Entry}
 use Rattle.s10_ledger.specs.Ledger.{Ledger, IsHonest, history_of, committed_of}
 use Rattle.s10_ends.specs.Server.{book_of}
-use Rattle.s10_host.specs.LoopRun.{LoopLink, IsNewLoop, loop_terms}
+use Rattle.s10_ends.specs.UdpLink.{BoundLink, IsBoundAt}
+use Rattle.std.specs.Prelude.{IfOk}
+use Rattle.s10_jobs.specs.Shown.{Prints}
+use Rattle.s10_sockets.specs.LoopCalls.{loop_calls, AreMadeInTurn}
+use Rattle.s10_host.specs.LoopRun.{LoopLink, IsNewLoop, loop_terms, localhost}
 use Rattle.s10_host.proofs.Leaving.{looped_over, none_left}
 use Rattle.s10_host.proofs.MemoryLedger.{is_honest}
 use Rattle.s10_host.proofs.loopback.run_loop.Goals as goal
 
 pub returns-clause-asked : goal.returns-clause-asked
 returns-clause-asked g c =
-    let (begun, new, over, ended, back, far, near, led, to, asked) = c.loop_over-asked.ensures in
+    let (begun, new, over, ended, back, far, near, led, asked) = c.loop_over-asked.ensures in
     let settings : c.in-Some.settings ≡ loop_terms = search rules in
     let fresh : IsNewLoop c.args.day begun =
     record {
@@ -30,7 +34,7 @@ returns-clause-asked g c =
     let none : c.loop_over-asked.result.1.pending ≡ [] =
     ap (λ (b : Ledger MemStore). b.pending) back ∙ none_left c.args.day begun ended fresh led honest
     in
-    looped_over to c.args.day begun ended (record {
+    looped_over c.args.day begun ended (record {
       connection = c.close-connection.result.connection;
       far = c.loop_over-asked.result.2;
       near = c.loop_over-asked.result.3;
@@ -41,4 +45,10 @@ returns-clause-asked g c =
       closed = c.close-connection.ensures.same none ∙ ap (λ (b : Ledger MemStore). b.conn) back;
       far = far;
       near = near;
-    }) c.in-Ok.ensures.ok.1 asked
+    }) c.in-Ok.ensures.ok.1
+    (subst (λ (l : BoundLink). IsBoundAt localhost l.at)
+    (sym (ap (λ (l : LoopLink). l.far) new)) c.in-Ok.ensures.at)
+    (subst (λ (l : BoundLink). IfOk c.loop_over-asked.result.0 (λ status. Prints
+    (g.W.Write.contents c.args.out.now) (g.W.Write.contents c.loop_over-asked.new.out)
+    (AreMadeInTurn l.at loop_calls c.in-Ok.links.1.trace c.loop_over-asked.result.3.trace status)))
+    (sym (ap (λ (l : LoopLink). l.far) new)) asked)

@@ -1,4 +1,5 @@
 use Rattle.std.proofs.Common.{◌≤◌, ◌-◌}
+use Rattle.s10_link.specs.Link.{LeadsTo}
 use Rattle.s10_ends.specs.Composed.{IsBatch}
 use Rattle.s10_jobs.proofs.Turning.{HasServed}
 use Rattle.s10_jobs.proofs.turns.serve_turns.Given as goal
@@ -8,9 +9,10 @@ abbrev pub invariant-loop-done : goal.invariant-loop-done
 invariant-loop-done g l = record {
   few : l.done ≤ l.fn.count;
   served : HasServed (IsBatch g.B.Book.faults g.B.Book.honest g.B.Book.terms g.B.Book.history
-      g.B.Book.committed g.B.Book.clean g.B.Book.may_find l.fn.day)
+      g.B.Book.committed g.B.Book.clean g.B.Book.may_find) g.D.Days.gives l.fn.day
       (g.L.Link.trace_of l.fn.link, l.fn.server.book) (g.L.Link.trace_of l.link, l.server.book)
-      (g.W.Write.contents l.fn.out) (g.W.Write.contents l.out) l.done;
+      l.fn.days l.days (g.W.Write.contents l.fn.out) (g.W.Write.contents l.out) l.done;
+  led : LeadsTo g.L.Link.step l.fn.link l.link;
 }
 
 abbrev pub decreases-loop-done : goal.decreases-loop-done

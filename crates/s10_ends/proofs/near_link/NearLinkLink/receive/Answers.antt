@@ -20,6 +20,7 @@ pub returns-clause-step : goal.returns-clause-step
 returns-clause-step g c =
     rw (← c.self.view_is) (record {
       day = refl;
+      led = c.serve_far.ensures.led;
       call = inl (
         c.serve_far.ensures.turn.0,
         c.receive.result,

@@ -1,4 +1,5 @@
 use Rattle.std.proofs.Common.{refl, inr}
+use Rattle.s10_link.specs.Link.LeadsTo.{none}
 use Rattle.s10_ends.proofs.near_link.NearLinkLink.send.Goals as goal
 
 pub returns-clause-trace : goal.returns-clause-trace
@@ -11,6 +12,7 @@ pub returns-clause-step : goal.returns-clause-step
 returns-clause-step g c =
     rw (← c.self.view_is) (record {
       day = refl;
+      led = none;
       call = inr (
         (c.args.to, c.args.frame.now),
         c.send.result,

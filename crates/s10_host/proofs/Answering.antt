@@ -12,7 +12,7 @@ use Rattle.s10_lines.specs.declared.write_fault.WriteFault.{WriteFault}
 use Rattle.s10_lines.specs.Lines.{line_of}
 use Rattle.s10_link.specs.Peer.{SpellsPeer}
 use Rattle.s10_link.specs.Trace.{new_trace}
-use Rattle.s10_ends.specs.UdpLink.{BoundLink}
+use Rattle.s10_ends.specs.UdpLink.{BoundLink, IsBoundAt}
 use Rattle.s10_ends.specs.Client.{ClientState, new_client}
 use Rattle.s10_ends.specs.Calls.{Calls}
 use Rattle.s10_ends.specs.declared.call_fault.CallFault.{CallFault}
@@ -24,7 +24,7 @@ use Rattle.s10_jobs.specs.Asked.{asked_status, asked_line}
 use Rattle.s10_jobs.specs.Lines.{refused_line}
 use Rattle.s10_jobs.specs.Words.{link_fault_words}
 use Rattle.s10_jobs.specs.Questions.{refusal_words, WordsAsk, IsQuestionRefusal}
-use Rattle.s10_sockets.specs.Questioning.{IsUnasked, IsAsked}
+use Rattle.s10_sockets.specs.Questioning.{IsUnasked, IsAsked, any_address}
 
 -- A text that cannot be read.
 pub refused_unasked : (question : Question) (refusal : Refusal) (old new : Option (List ℕ))
@@ -55,9 +55,11 @@ pub asked_over : (question : Question) (to : Peer) (body : Body) (begun : Trace)
     × Calls (new_client question.customer question.number question.number) client begun link.trace
     to body question.tries called
     × IfOk r (λ status. (status ≡ asked_status called) × Appends old new (asked_line called)))
-    → IsAsked question link old new r
-asked_over question to body begun link old new r peer asks fresh (client, called, calls, shows) =
+    → IsBoundAt any_address link.at → IsAsked question link old new r
+asked_over question to body begun link old new r peer asks fresh (client, called, calls, shows)
+    bound =
     record {
+      at = bound;
       to = to;
       body = body;
       peer = peer;

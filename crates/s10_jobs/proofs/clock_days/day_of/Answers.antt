@@ -1,5 +1,5 @@
 use Rattle.std.proofs.Common.{rules}
-use Rattle.s10_sockets.proofs.questioning.ask_once.Goals as goal
+use Rattle.s10_jobs.proofs.clock_days.day_of.Goals as goal
 
 pub returns : goal.returns
 returns c = search rules
