@@ -1,6 +1,5 @@
 ghost use Rattle.std.specs.Prelude.{◌≡◌, ◌≤◌, SomeIff};
 ghost use Rattle.s10_history.specs.Settings.{Terms, AreTerms};
-ghost use Rattle.s10_history.specs.declared.settings.TheConstants.{MAX_INTERVAL, MAX_LIMIT};
 
 use std::marker::Model;
 
@@ -49,7 +48,7 @@ impl Settings {
     /// Returns the reuse interval in days, 1 to [`MAX_INTERVAL`].
     pub fn interval(&self) -> u32
         ensures value { result ≡ self.now.interval }
-        ensures range { (1 ≤ result) × (result ≤ MAX_INTERVAL) }
+        ensures range { (1 ≤ result) × (result ≤ 3650) }
     {
         self.interval
     }
@@ -57,7 +56,7 @@ impl Settings {
     /// Returns the greatest number of calls that the ledger keeps, 1 to [`MAX_LIMIT`].
     pub fn limit(&self) -> u32
         ensures value { result ≡ self.now.limit }
-        ensures range { (1 ≤ result) × (result ≤ MAX_LIMIT) }
+        ensures range { (1 ≤ result) × (result ≤ 1000000000) }
     {
         self.limit
     }
