@@ -1,7 +1,6 @@
 //! A book that fails once, for tests.
 
-ghost use Rattle.std.specs.Prelude.{◌≡◌, ◌||◌, false};
-ghost use Rattle.std.specs.Bool.{OnTrue};
+ghost use Rattle.std.specs.Prelude.{◌≡◌, ◌||◌, ◌&&◌, ◌==◌, ◌-◌, not, false};
 ghost use Rattle.s10_book.specs.BookFault.{with_trip};
 
 use crate::book::Book;
@@ -54,8 +53,9 @@ impl<B: Book> TripBook<B> {
     // Counts a call, and returns whether it is the one that fails.
     fn trips(&mut self) -> bool
         ensures inner { self.new.inner ≡ self.old.inner }
+        ensures trips { result ≡ (not self.old.tripped && self.old.left == 0) }
         ensures tripped { self.new.tripped ≡ (self.old.tripped || result) }
-        ensures once { OnTrue result (self.old.tripped ≡ false) }
+        ensures left { self.old.tripped ≡ false → self.new.left ≡ self.old.left - 1 }
     {
         if self.tripped {
             return false;
