@@ -1,6 +1,6 @@
 //! Links a client to a server in the same process.
 
-ghost use Rattle.std.specs.Prelude.{◌≡◌};
+ghost use Rattle.std.specs.Prelude.{◌≡◌, Err};
 ghost use Rattle.s10_link.specs.Link.{LeadsTo};
 ghost use Rattle.s10_ends.specs.Server.{book_of};
 ghost use Rattle.s10_ends.specs.Turn.{Turn, ServesOne, StaysWhole};
@@ -61,6 +61,8 @@ impl<B: Book, F: Link, N: Link> Link for NearLink<B, F, N> {
         F.trace_of
         N.trace_of F.step };
 
+    ghost spent = { λ link. N.spent link.near };
+
     fn receive(&mut self) -> Result<Option<(Peer, Packet)>, LinkFault>
         ensures trace { Receives (N.trace_of self.old.near) (N.trace_of self.new.near) result }
 
@@ -108,6 +110,7 @@ impl<B: Book, F: Link, N: Link> Link for NearLink<B, F, N> {
     fn send(&mut self, to: Peer, frame: &Frame) -> Result<(), LinkFault>
         ensures trace { Sends (N.trace_of self.old.near) (N.trace_of self.new.near) (to, frame.now)
             result }
+        ensures spent { result ≡ Err LinkFault.Spent → N.spent self.old.near }
         ensures same { self.new ≡ record self.old { near = self.new.near } }
         ensures step { IsNearStep B.faults B.honest B.terms B.history B.committed B.clean B.may_find
             F.trace_of

@@ -128,6 +128,8 @@ impl Link for UdpLink {
 
     ghost step = { λ old new. new.at ≡ old.at };
 
+    ghost spent = { λ link. link.trace.calls ≡ 2 ^ 64 - 1 };
+
     fn receive(&mut self) -> Result<Option<(Peer, Packet)>, LinkFault>
         ensures trace { Receives self.old.trace self.new.trace result }
         ensures step { self.new.at ≡ self.old.at }

@@ -1,5 +1,5 @@
 -- How a scripted link follows its script.
-use Rattle.std.specs.Prelude.{◌≡◌, ◌-◌, ◌^◌, ◌<◌, Some, None, Ok, Err, List, [], ◌∷◌, ◌++◌, Bool}
+use Rattle.std.specs.Prelude.{◌≡◌, ◌⊎◌, ◌-◌, ◌^◌, ◌<◌, Some, None, Ok, Err, List, [], ◌∷◌, ◌++◌, Bool}
 use Rattle.std.specs.Prelude.{true, false}
 use Rattle.s10_link.specs.declared.receipt.Receipt.{Receipt}
 use Rattle.s10_link.specs.declared.receipt.Receipt.TheVariants.{Deliver, Nothing, Fail}
@@ -15,6 +15,10 @@ pub record Script : Type 0 where
   pub sends : List Bool
   pub log : List (Peer × Frame)
   pub trace : Trace
+
+-- No send is left: the calls are at their end, or the script has no send left.
+abbrev pub HasNoSend : Script → Type 0
+HasNoSend link = (link.trace.calls ≡ 2 ^ 64 - 1) ⊎ (link.sends ≡ [])
 
 -- The result of a receive with this receipt.
 abbrev pub result_of : Receipt → ReceiveResult

@@ -1,6 +1,6 @@
 //! The trait of links.
 
-ghost use Rattle.std.specs.Prelude.{◌≡◌, ⊤};
+ghost use Rattle.std.specs.Prelude.{◌≡◌, ⊤, Err};
 ghost use Rattle.s10_link.specs.declared.trace.Trace.{Trace};
 ghost use Rattle.s10_link.specs.Link.{Receives, Sends};
 
@@ -17,6 +17,10 @@ pub trait Link {
 
     /// How one call may change the link, besides its trace.
     ghost step: { Self → Self → Type 0 } = { λ _ _. ⊤ };
+
+    /// No send is left to the link: its calls have reached the greatest u64, or its script has no
+    /// send left.
+    ghost spent: { Self → Type 0 };
 
     /// Waits for the next datagram and returns it with its sender, or `None` if nothing arrived.
     ///
@@ -42,9 +46,10 @@ pub trait Link {
     /// # Errors
     ///
     /// - `Send` if sending failed; whether the frame was sent is unknown.
-    /// - `Spent` if no call is left to the link; its trace is unchanged.
+    /// - `Spent` if no send is left to the link; its trace is unchanged.
     fn send(&mut self, to: Peer, frame: &Frame) -> Result<(), LinkFault>
         ensures trace { Sends (trace_of self.old) (trace_of self.new) (to, frame.now) result }
+        ensures spent { result ≡ Err LinkFault.Spent → spent self.old }
         ensures step { step self.old self.new };
 
     /// Returns the trace of the link: its calls since it was created.

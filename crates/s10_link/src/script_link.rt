@@ -85,11 +85,13 @@ impl ScriptLink {
 }
 
 impl Link for ScriptLink {
-    ghost use Rattle.std.specs.Prelude.{◌≡◌};
+    ghost use Rattle.std.specs.Prelude.{◌≡◌, Err};
     ghost use Rattle.s10_link.specs.Link.{Receives, Sends};
-    ghost use Rattle.s10_link.specs.ScriptLink.{FollowsReceipts, FollowsSends};
+    ghost use Rattle.s10_link.specs.ScriptLink.{FollowsReceipts, FollowsSends, HasNoSend};
 
     ghost trace_of = { λ link. link.trace };
+
+    ghost spent = { HasNoSend };
 
     fn receive(&mut self) -> Result<Option<(Peer, Packet)>, LinkFault>
         ensures trace { Receives self.old.trace self.new.trace result }
@@ -130,6 +132,7 @@ impl Link for ScriptLink {
     fn send(&mut self, to: Peer, frame: &Frame) -> Result<(), LinkFault>
         ensures trace { Sends self.old.trace self.new.trace (to, frame.now) result }
         ensures script { FollowsSends self.old self.new (to, frame.now) result }
+        ensures spent { result ≡ Err LinkFault.Spent → HasNoSend self.old }
     {
         if self.trace.calls == u64::MAX || self.next_send == self.sends.len() {
             return Err(LinkFault::Spent);

@@ -5,6 +5,9 @@ use Rattle.s10_ends.proofs.near_link.NearLinkLink.send.Goals as goal
 pub returns-clause-trace : goal.returns-clause-trace
 returns-clause-trace g c = rw (← c.self.view_is) c.send.ensures.trace
 
+pub returns-clause-spent : goal.returns-clause-spent
+returns-clause-spent g c = rw (← c.self.view_is) c.send.ensures.spent
+
 pub returns-clause-same : goal.returns-clause-same
 returns-clause-same g c = rw (← c.self.view_is) refl
 

@@ -1,4 +1,5 @@
 use Rattle.std.proofs.Common.{◌≡◌, ℕ, ◌+◌, ◌^◌, ◌<◌, ◌≤◌, true, false, length, refl, arith, Fits}
+use Rattle.std.proofs.Common.{inl, inr}
 use Rattle.std.proofs.Common.{w64}
 use Rattle.std.proofs.lemmas.List.{drop_all}
 use Rattle.s10_link.proofs.Scripts.{takes_send}
@@ -45,6 +46,15 @@ returns-then-self-clause-script c =
         receipts = refl;
         log = refl;
       }
+    ])
+
+pub returns-then-self-clause-spent : goal.returns-then-self-clause-spent
+returns-then-self-clause-spent c = λ _.
+    rw (← c.self.view_is) (elim c.then-self.branch [
+      | then-self-via-then-self w ↦ inl w.if-self.true
+      | then-self-via-else-self+then-self-len w ↦ inr
+          (drop_all c.self.inside.next_send c.self.inside.sends.items
+          (omega (arith, w.len.ensures, w.if-self-len.true)))
     ])
 
 pub index-passes-requires : goal.index-passes-requires
@@ -106,6 +116,9 @@ returns-then-passes-clause-script c =
       log = c.push_reserved.ensures.items;
     })
 
+pub returns-then-passes-clause-spent : goal.returns-then-passes-clause-spent
+returns-then-passes-clause-spent c = λ wrong. absurd cc
+
 pub returns-else-passes-clause-trace : goal.returns-else-passes-clause-trace
 returns-else-passes-clause-trace c = rw (← c.self.view_is) c.after_failure-self-inside.ensures.trace
 
@@ -122,3 +135,6 @@ returns-else-passes-clause-script c =
       receipts = refl;
       log = refl;
     })
+
+pub returns-else-passes-clause-spent : goal.returns-else-passes-clause-spent
+returns-else-passes-clause-spent c = λ wrong. absurd cc
