@@ -22,6 +22,10 @@ pub struct UdpLink {
     socket: UdpSocket,
     at: Peer,
     trace: Trace,
+    // Whether a receive from the socket waits for a datagram.
+    waits: bool,
+    // The system's error of the last call that failed.
+    failure: Option<io::Error>,
 }
 
 impl Model for UdpLink {
@@ -59,6 +63,8 @@ impl UdpLink {
                 socket,
                 at: peer_of(bound),
                 trace: Trace::new(),
+                waits: true,
+                failure: None,
             }),
             _ => Err(LinkFault::Bind),
         }
@@ -71,12 +77,39 @@ impl UdpLink {
         self.at
     }
 
+    /// Returns the system's error of the last call that failed, or `None` if no call has failed.
+    pub fn last_failure(&self) -> Option<io::Error> {
+        self.failure
+    }
+
     // Returns the next datagram from an IPv4 sender if it has already arrived. Does not wait.
-    fn waiting_datagram(&self) -> io::Result<Option<(Peer, Packet)>> {
-        self.socket.set_nonblocking(true)?;
-        let came = self.next_datagram();
-        self.socket.set_nonblocking(false)?;
-        came
+    fn waiting_datagram(&mut self) -> io::Result<Option<(Peer, Packet)>>
+        ensures at { self.new.at ≡ self.old.at }
+        ensures trace { self.new.trace ≡ self.old.trace }
+    {
+        self.set_waits(false)?;
+        self.next_datagram()
+    }
+
+    // Returns the next datagram from an IPv4 sender if it arrives in time.
+    fn awaited_datagram(&mut self) -> io::Result<Option<(Peer, Packet)>>
+        ensures at { self.new.at ≡ self.old.at }
+        ensures trace { self.new.trace ≡ self.old.trace }
+    {
+        self.set_waits(true)?;
+        self.next_datagram()
+    }
+
+    // Sets whether a receive waits. Nothing is received if that fails, so no datagram is lost.
+    fn set_waits(&mut self, waits: bool) -> io::Result<()>
+        ensures at { self.new.at ≡ self.old.at }
+        ensures trace { self.new.trace ≡ self.old.trace }
+    {
+        if self.waits != waits {
+            self.socket.set_nonblocking(!waits)?;
+            self.waits = waits;
+        }
+        Ok(())
     }
 
     // Counts a receive in the trace, by its result.
@@ -97,14 +130,15 @@ impl UdpLink {
                 self.trace = self.trace.after_call();
                 Ok(None)
             }
-            Err(_) => {
+            Err(cause) => {
+                self.failure = Some(cause);
                 self.trace = self.trace.after_failure();
                 Err(LinkFault::Receive)
             }
         }
     }
 
-    // Returns the next datagram from an IPv4 sender if it arrives in time.
+    // Returns the next datagram from an IPv4 sender, as the socket receives it.
     fn next_datagram(&self) -> io::Result<Option<(Peer, Packet)>> {
         let mut room = [0u8; 512];
         match self.socket.recv_from(&mut room) {
@@ -137,7 +171,7 @@ impl Link for UdpLink {
         if self.trace.calls == u64::MAX {
             return Err(LinkFault::Spent);
         }
-        let came = self.next_datagram();
+        let came = self.awaited_datagram();
         self.count_receive(came)
     }
 
@@ -166,7 +200,8 @@ impl Link for UdpLink {
                 self.trace = self.trace.after_send(to, frame);
                 Ok(())
             }
-            _ => {
+            sent => {
+                self.failure = sent.err();
                 self.trace = self.trace.after_failure();
                 Err(LinkFault::Send)
             }
