@@ -9,6 +9,7 @@ mod checking;
 mod clock_days;
 mod days;
 mod delivery_line;
+mod drop_log;
 mod failures;
 mod job;
 mod job_status;

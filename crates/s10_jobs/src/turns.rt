@@ -10,15 +10,17 @@ ghost use Rattle.s10_jobs.specs.TurnLines.{turn_line};
 ghost use Rattle.s10_jobs.specs.Serving.{ServesTurns, PrintsBatch};
 
 use crate::days::{Days, next_day};
+use crate::drop_log::DropLog;
 use crate::failures::fail_by_clock;
 use crate::job_status::JobStatus;
 use crate::turn_line::write_turn;
 use s10_book::GroupCommit;
-use s10_ends::{Server, ServerTurn, Turn, serve_batch, serve_batch_of_one};
+use s10_ends::{Server, Turn, serve_batch, serve_batch_of_one};
 use s10_lines::WriteFault;
 use s10_link::Link;
 use std::alloc::Global;
 use std::io::Write;
+use std::time::Clock;
 
 /// The maximum number of datagrams in one batch.
 const MAX_BATCH: u32 = 64;
@@ -27,8 +29,8 @@ const MAX_BATCH: u32 = 64;
 ///
 /// The calls of a batch are committed together if a reply is to a pending call. Then its replies are
 /// sent, and its lines are written and flushed. If a batch cannot be allocated, the server handles
-/// one datagram without allocating. Standard error has a line for each dropped datagram, with its
-/// sender.
+/// one datagram without allocating. Standard error has the sender of a dropped datagram at once. For
+/// a minute after that it only counts them, and then has their number and the sender of the last.
 ///
 /// From the first batch to the last, each distinct request that arrived is applied once, in order
 /// of first arrival, and the call of each reply that was sent is committed.
@@ -40,7 +42,7 @@ const MAX_BATCH: u32 = 64;
 ///
 /// `WriteFault` if the writer fails. A batch whose lines fail was served, and part of them may be
 /// written.
-pub fn serve_turns<R: Eprint, B: GroupCommit, L: Link, D: Days, W: Write>(
+pub fn serve_turns<R: Clock + Eprint, B: GroupCommit, L: Link, D: Days, W: Write>(
     rt: &R,
     alloc: Global,
     server: &mut Server<B>,
@@ -57,21 +59,23 @@ pub fn serve_turns<R: Eprint, B: GroupCommit, L: Link, D: Days, W: Write>(
     ensures given { day ≢ None → result ≢ Ok JobStatus.Failed }
     ensures led { LeadsTo L.step link.old link.new }
 {
+    let mut log = DropLog::new(rt);
     let mut done = 0;
     while done < count {
         let Some(today) = next_day(days, day) else {
             return fail_by_clock(out);
         };
         let most = (count - done).min(MAX_BATCH);
-        done += serve_batched(rt, alloc, server, link, today, most, out)?;
+        done += serve_batched(&mut log, alloc, server, link, today, most, out)?;
     }
+    log.eprint_rest();
     Ok(JobStatus::Done)
 }
 
 // Serves one batch, prints its turns, and returns the number of turns. If the batch cannot be
 // allocated, one datagram is handled without allocating.
-fn serve_batched<R: Eprint, B: GroupCommit, L: Link, W: Write>(
-    rt: &R,
+fn serve_batched<R: Clock + Eprint, B: GroupCommit, L: Link, W: Write>(
+    log: &mut DropLog<'_, R>,
     alloc: Global,
     server: &mut Server<B>,
     link: &mut L,
@@ -80,44 +84,41 @@ fn serve_batched<R: Eprint, B: GroupCommit, L: Link, W: Write>(
     out: &mut W,
 ) -> Result<u32, WriteFault>
     requires { 1 ≤ most }
-    ensures printed { PrintsBatch (λ turns. (room : ℕ) × ServesBatch B.faults B.honest B.terms B.history
-        B.committed B.clean B.may_find day room
+    ensures printed { PrintsBatch (λ turns. (room : ℕ) × ServesBatch B.faults B.honest B.terms
+        B.history B.committed B.clean B.may_find day room
         (L.trace_of link.old, book_of server.old) (L.trace_of link.new, book_of server.new) turns)
         most (W.contents out.old) (W.contents out.new) result }
     ensures led { LeadsTo L.step link.old link.new }
 {
     match serve_batch(alloc, server, link, day, most) {
         Ok(turns) => {
-            print_turns(rt, &turns, out)?;
+            print_turns(log, &turns, out)?;
             Ok(turns.len() as u32)
         }
         Err(_) => {
             let turn = serve_batch_of_one(server, link, day);
-            print_turns(rt, &[turn], out)?;
+            print_turns(log, &[turn], out)?;
             Ok(1)
         }
     }
 }
 
-// Prints the lines of turns and flushes them. Standard error has the sender of each dropped
-// datagram.
-fn print_turns<R: Eprint, W: Write>(rt: &R, turns: &[Turn], out: &mut W) -> Result<(), WriteFault>
+// Prints the lines of turns and flushes them, and logs the dropped datagrams.
+fn print_turns<R: Clock + Eprint, W: Write>(
+    log: &mut DropLog<'_, R>,
+    turns: &[Turn],
+    out: &mut W,
+) -> Result<(), WriteFault>
     ensures { OnOk result (Appends (W.contents out.old) (W.contents out.new)
         (flat_map turn_line turns.now)) }
 {
     for turn in turns {
-        eprint_sender(rt, turn);
+        log.count(turn);
         write_turn(turn, out)?;
     }
+    log.eprint_if_due();
     let Ok(()) = out.flush() else {
         return Err(WriteFault);
     };
     Ok(())
-}
-
-// The result is ignored, so the turns continue if standard error is closed.
-fn eprint_sender<R: Eprint>(rt: &R, turn: &Turn) {
-    if let Ok(ServerTurn::Dropped(from, _)) = turn {
-        let _ = eprintln!(rt; "dropped from {from}");
-    }
 }

@@ -15,6 +15,7 @@ use s10_link::Peer;
 use std::alloc::Global;
 use std::io::Write;
 use std::net::Net;
+use std::time::Clock;
 
 /// Serves `count` turns of a book at an address, and returns the status and the book.
 ///
@@ -36,7 +37,7 @@ pub fn serve_at<R, B, D, W>(
     out: &mut W,
 ) -> (Result<JobStatus, WriteFault>, Option<UdpLink>, B)
 where
-    R: Net + Eprint,
+    R: Net + Clock + Eprint,
     B: GroupCommit,
     D: Days,
     W: Write,

@@ -10,7 +10,7 @@ use s10_jobs::{ClockDays, Days, JobStatus, next_day, serve_turns, today};
 use s10_lines::WriteFault;
 use s10_link::{Link, Peer};
 use std::alloc::Global;
-use std::cell::RefCell;
+use std::cell::{Cell, RefCell};
 use std::fmt::Display;
 use std::io;
 use std::io::Write;
@@ -51,15 +51,33 @@ impl Eprint for Standing {
     }
 }
 
-/// A standard error that keeps what is printed to it. There is no clock.
+/// A standard error that keeps what is printed to it. Each reading of the clock is `step` seconds
+/// after the one before, or fails if `step` is 0. The clock gives no day.
 #[derive(Drop)]
 struct Listening {
     told: RefCell<Vec<u8>>,
+    seconds: Cell<u64>,
+    step: u64,
+}
+
+impl Listening {
+    fn new(alloc: Global, step: u64) -> Listening {
+        Listening {
+            told: RefCell::new(Vec::new(alloc)),
+            seconds: Cell::new(0),
+            step,
+        }
+    }
 }
 
 impl Clock for Listening {
     fn monotonic(&self) -> io::Result<Duration> {
-        self.since_1970()
+        if self.step == 0 {
+            return self.since_1970();
+        }
+        let now = self.seconds.get().saturating_add(self.step);
+        self.seconds.set(now);
+        Ok(Duration::from_secs(now))
     }
 
     fn since_1970(&self) -> io::Result<Duration> {
@@ -298,9 +316,7 @@ dropped short
 /// Returns whether `count` turns over the link of `THREE_DROPPED` have the first of the lines, and
 /// standard error has this text.
 fn are_reported(alloc: Global, count: u32, batches: u32, told: &str) -> bool {
-    let rt = Listening {
-        told: RefCell::new(Vec::new(alloc)),
-    };
+    let rt = Listening::new(alloc, 0);
     let turns = Turns {
         receipts: THREE_DROPPED,
         sends: &[true],
@@ -319,15 +335,11 @@ const REPORTED: &[(u32, u32, &str)] = &[
     (1, 1, ""),
     (2, 2, "dropped from 10.0.0.8:40123\n"),
     (3, 2, "dropped from 10.0.0.8:40123\n"),
-    (
-        4,
-        2,
-        "dropped from 10.0.0.8:40123\ndropped from 10.0.0.7:4711\n",
-    ),
+    (4, 2, "dropped 2 datagrams, the last from 10.0.0.7:4711\n"),
     (
         6,
         3,
-        "dropped from 10.0.0.8:40123\ndropped from 10.0.0.7:4711\ndropped from 10.0.0.8:40123\n",
+        "dropped 2 datagrams, the last from 10.0.0.7:4711\ndropped from 10.0.0.8:40123\n",
     ),
 ];
 
@@ -335,6 +347,58 @@ const REPORTED: &[(u32, u32, &str)] = &[
 fn senders_of_dropped_datagrams_go_to_standard_error(rt: HostRuntime) {
     for (count, batches, told) in REPORTED {
         holds(&rt, count, are_reported(rt.alloc(), *count, *batches, told));
+    }
+}
+
+/// Four datagrams that are no requests, each in a batch of its own.
+const FOUR_DROPPED: Turns<'static> = Turns {
+    receipts: &[
+        Meets::Bytes(OTHER, b"S1"),
+        Meets::Nothing,
+        Meets::Bytes(OTHER, b"S1"),
+        Meets::Nothing,
+        Meets::Bytes(PEER, b"S1"),
+        Meets::Nothing,
+        Meets::Bytes(OTHER, b"S1"),
+        Meets::Nothing,
+    ],
+    sends: &[],
+    count: 4,
+    day: Some(20_000),
+    status: JobStatus::Done,
+    lines: b"dropped short\ndropped short\ndropped short\ndropped short\n",
+    flushed: 4,
+    calls: 0,
+};
+
+/// Returns whether standard error has this text after these turns, if each reading of the clock is
+/// `step` seconds after the one before.
+fn are_named_by(alloc: Global, step: u64, told: &str) -> bool {
+    let rt = Listening::new(alloc, step);
+    are_served(&rt, alloc, &FOUR_DROPPED) && rt.told.into_inner().as_slice() == told.as_bytes()
+}
+
+/// Seconds between two readings of the clock, and what standard error shows. The clock is read
+/// after each line, and before each later batch whose datagrams might be named.
+const NAMED: &[(u64, &str)] = &[
+    (
+        1,
+        "dropped from 10.0.0.8:40123\ndropped 3 datagrams, the last from 10.0.0.8:40123\n",
+    ),
+    (
+        59,
+        "dropped from 10.0.0.8:40123\ndropped 2 datagrams, the last from 10.0.0.7:4711\ndropped from 10.0.0.8:40123\n",
+    ),
+    (
+        60,
+        "dropped from 10.0.0.8:40123\ndropped from 10.0.0.8:40123\ndropped from 10.0.0.7:4711\ndropped from 10.0.0.8:40123\n",
+    ),
+];
+
+#[test]
+fn a_sender_is_named_once_in_a_minute(rt: HostRuntime) {
+    for (step, told) in NAMED {
+        holds(&rt, step, are_named_by(rt.alloc(), *step, told));
     }
 }
 
