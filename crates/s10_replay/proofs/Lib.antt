@@ -18,3 +18,4 @@ pub mod GrantRows
 pub mod CallIssues
 pub mod IssueRows
 pub mod VoidRows
+pub mod FaultLemmas

@@ -4,6 +4,7 @@ ghost use Rattle.std.specs.Prelude.{◌≡◌, ◌≢◌, ℤ, pos, IfSome, IfNo
 ghost use Rattle.s10_history.specs.Settings.{Terms, AreTerms};
 ghost use Rattle.s10_rows.specs.Tables.{Tables, head_row};
 ghost use Rattle.s10_replay.specs.CheckedTables.{IsHead, IsRefusal};
+ghost use Rattle.s10_replay.specs.FaultNames.{IsHeadFault};
 
 use crate::column::number_in;
 use s10_history::Settings;
@@ -34,6 +35,7 @@ fn settings_of(head: &HeadRow) -> Option<Settings>
 pub fn settings_in(heads: &[HeadRow]) -> Result<Settings, OpenFault>
     ensures ok { IfOk result (IsHead heads.now (pos 1)) }
     ensures err { (tables : Tables) → tables.heads ≡ heads.now → IfErr result (IsRefusal tables) }
+    ensures head_fault { IfErr result IsHeadFault }
 {
     let [head] = heads else {
         return Err(OpenFault::NotALedger);

@@ -3,10 +3,12 @@
 ghost use Rattle.std.specs.Prelude.{◌≡◌, ◌↔◌, ◌<◌, ◌≤◌, pos, length, IfSome, IfNone, IfOk, IfErr};
 ghost use Rattle.std.specs.Prelude.{IsTrue, None, OnOk, []};
 ghost use Rattle.s10_book.specs.Book.{Unchanged};
+ghost use Rattle.s10_book.specs.BookFault.{CountsResult};
 ghost use Rattle.s10_history.specs.History.{day_of, find_entry};
 ghost use Rattle.s10_rows.specs.Tables.{Tables};
 ghost use Rattle.s10_replay.specs.RightRows.{IsRightRow, AreRight, kept_of, entry_of};
 ghost use Rattle.s10_replay.specs.CheckedTables.{IsHead, IsRefusal};
+ghost use Rattle.s10_replay.specs.FaultNames.{CountsReplay};
 ghost use Rattle.s10_rows.specs.Selected.{IsCall};
 
 use crate::call_reading::entry_in_row;
@@ -29,6 +31,7 @@ fn has_key_columns(row: &CallRow, arrival: u32, call: &Entry) -> bool
 
 // Returns whether no call of the book has the key of the call.
 fn is_new<B: Book>(book: &mut B, call: &Entry) -> Result<bool, BookFault>
+    ensures faults { CountsResult result (B.faults book.old) (B.faults book.new) }
     ensures unchanged { Unchanged B.history B.committed B.terms B.honest B.clean B.may_find book.old
         book.new }
     ensures answer { B.honest book.new
@@ -43,6 +46,7 @@ fn is_new<B: Book>(book: &mut B, call: &Entry) -> Result<bool, BookFault>
 // Returns whether the limit is not reached, the day of the call is not before the book's, and its
 // key is new.
 fn may_follow<B: Book>(book: &mut B, call: &Entry) -> Result<bool, BookFault>
+    ensures faults { CountsResult result (B.faults book.old) (B.faults book.new) }
     ensures unchanged { Unchanged B.history B.committed B.terms B.honest B.clean B.may_find book.old
         book.new }
     ensures answer { B.honest book.new
@@ -60,6 +64,7 @@ fn may_follow<B: Book>(book: &mut B, call: &Entry) -> Result<bool, BookFault>
 
 // Returns the call of the row if the row is right after the book's calls. None if it is wrong.
 fn right_call<B: Book>(book: &mut B, row: &CallRow) -> Result<Option<Entry>, BookFault>
+    ensures faults { CountsResult result (B.faults book.old) (B.faults book.new) }
     ensures unchanged { Unchanged B.history B.committed B.terms B.honest B.clean B.may_find book.old
         book.new }
     ensures right { B.honest book.new
@@ -99,6 +104,7 @@ pub fn replay_rows<B: Book>(book: &mut B, rows: &[CallRow]) -> Result<(), OpenFa
     ensures err { B.honest book.new → B.history book.old ≡ [] → (tables : Tables)
         → tables.calls ≡ rows.now → IsHead tables.heads (pos 1) (B.terms book.old)
         → IfErr result (IsRefusal tables) }
+    ensures faults { CountsReplay result (B.faults book.old) (B.faults book.new) }
 {
     for row in rows {
         let call = match right_call(book, row) {

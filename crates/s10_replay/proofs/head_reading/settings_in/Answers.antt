@@ -10,3 +10,6 @@ returns-in_default-settings_of-clause-err c = λ tables same schema t head.
 
 pub returns-clause-ok : goal.returns-clause-ok
 returns-clause-ok c = grind (arith, common_steps)
+
+pub returns-then-head-ne1-clause-head_fault : goal.returns-then-head-ne1-clause-head_fault
+returns-then-head-ne1-clause-head_fault c = tt
