@@ -24,7 +24,8 @@ HERE = Path(__file__).resolve().parent
 PAGE = HERE.parent / "contrib/page/s10.html"
 BROWSER = os.environ.get("BROWSER", "chromium")
 LANGUAGES = ("en", "de", "fr")
-PATIENCE = 5  # seconds until a text must have appeared
+PATIENCE = 20  # seconds until a text must have appeared
+PATIENCE_WITH_WRONG_PAGE = 5
 
 
 class Failed(Exception):
@@ -63,11 +64,12 @@ class Browser:
         os.close(to_us)
         self.to_browser, self.from_browser = to_browser, from_browser
         self.rest, self.number, self.events = b"", 0, []
+        self.patience = PATIENCE
 
     def close(self):
         with contextlib.suppress(Failed, OSError):
             self.call("Browser.close")
-        self.process.wait(timeout=20)
+        self.process.wait(timeout=60)
         os.close(self.to_browser)
         os.close(self.from_browser)
         for _ in range(20):  # The last of its processes may still write to the profile.
@@ -139,7 +141,7 @@ class Tab:
 
     def load(self, url):
         self.call("Page.navigate", url=url)
-        end = time.monotonic() + 20
+        end = time.monotonic() + 60
         while not self.seen("Page.loadEventFired"):
             holds("the page does not load", time.monotonic() < end)
             self.browser.events.append(self.browser.receive())
@@ -153,7 +155,7 @@ class Tab:
 
     def until(self, what, code, expected):
         """Waits until an expression has the expected value."""
-        end = time.monotonic() + PATIENCE
+        end = time.monotonic() + self.browser.patience
         while (came := self.js(code)) != expected:
             if time.monotonic() > end:
                 same(what, expected, came)
@@ -742,6 +744,7 @@ def take_picture(file):
 def try_wrong_pages(browser):
     """Returns the number of wrong pages with which the test that must fail does not."""
     passed = 0
+    browser.patience = PATIENCE_WITH_WRONG_PAGE
     page = PAGE.read_text(encoding="utf-8")
     with tempfile.TemporaryDirectory() as folder:
         path = Path(folder) / "wrong.html"

@@ -21,7 +21,15 @@ elif have rt; then
     python3 "$top/contrib/page/make_page.py" --check
     echo "s10.html is what is built"
 fi
-if have "${BROWSER:-chromium}"; then
-    python3 "$top/checks/counter_page.py"
+browser=${BROWSER:-chromium}
+if have "$browser"; then
+    version=$("$browser" --version 2>/dev/null | grep -oE '[0-9]+' | head -n 1)
+    if [ "${version:-0}" -lt 133 ]; then
+        echo "skipped: $browser from version 133 on"
+    elif ! timeout 120 "$browser" --headless=new --no-sandbox --disable-gpu --dump-dom about:blank 2>/dev/null | grep -q '<body'; then
+        echo "skipped: $browser does not start here"
+    else
+        python3 "$top/checks/counter_page.py"
+    fi
 fi
 echo "counter page ok"

@@ -6,14 +6,17 @@
 The pages are README.md, SECURITY.md, CHANGELOG.md, docs/*.md and those of contrib. Each fenced command is run, or is in NOT_RUN
 with the reason. A command that is neither run nor in NOT_RUN is a failure, and so is an entry of NOT_RUN without a command.
 library_pages.py runs the commands of the pages of the C library.
-The numbers in the pages are compared by counts.py. Needs port 4000 of this machine, `sqlite3`, and `rt` of the Rattle kit.
+The numbers in the pages are compared by counts.py. Where a page names port 4000 of this machine, a free port is used. A command
+whose tool the machine lacks, such as `sqlite3`, is skipped, and those after it in its folder that need what it makes.
 """
 
 import contextlib
 import os
+import random
 import re
 import shutil
 import signal
+import socket
 import subprocess
 import sys
 import tempfile
@@ -39,12 +42,7 @@ NOT_RUN = (
     ("# kill", "root and systemd"),
     ("systemd-analyze", "systemd"),
     ("journalctl", "systemd"),
-    ("mandoc", "mandoc"),
-    ("groff", "groff"),
-    ("man ", "man"),
-    ("python3 test_completions.py", "zsh and fish"),
-    ("tshark", "tshark"),
-    ("python3 test_dissector.py", "tshark"),
+    ("tshark", "tshark, which captures packets as root"),
     ("python3 page/make_page.py", "writes into the repository, and takes minutes to prove"),
     ("bash ../checks/counter_page.sh", "takes minutes to prove, and Chromium"),
     ("bash make_deb.sh", "dpkg-dev"),
@@ -52,6 +50,18 @@ NOT_RUN = (
     ("# dpkg", "root"),
     ("# ls /var/lib/private", "root and systemd"),
 )
+
+# What a command needs beside what a Unix system has, by how it begins.
+TOOLS = {
+    "rt ": ("rt",),
+    "sqlite3 ": ("sqlite3",),
+    "date ": ("sqlite3",),
+    "mandoc ": ("mandoc",),
+    "groff ": ("groff",),
+    "man ": ("man", "groff"),
+    "python3 test_completions.py": ("zsh", "fish"),
+    "python3 test_dissector.py": ("tshark",),
+}
 
 # The pages of the C library, which takes minutes to prove.
 LIBRARY_PAGES = ("contrib/bindings/README.md", "contrib/c/README.md", "contrib/python/README.md")
@@ -62,7 +72,9 @@ PROGRAMS = "./s10 .ci/run s10 rt rattle bash sh python3 cd cp mv rm ls cat sqlit
 # The commands whose output the pages leave out.
 OUTPUT_LEFT_OUT = re.compile(r"SELECT |^date ")
 
-TIME_LIMIT = 300
+TIME_LIMIT = 600
+# How many seconds a server may take to print the lines of its last replies, which are sent before.
+PATIENCE = 20
 SERVE = "s10 serve --ledger {} --bind 127.0.0.1:4000 --count 3600 --day 20000"
 CREATE = "s10 create --ledger {} --interval 30 --limit 1000"
 TO = "--to 127.0.0.1:4000"
@@ -86,6 +98,7 @@ class Command:
     text: str
     shown: list = field(default_factory=list)
     is_run: bool = False
+    lacks: str = ""  # the tool for lack of which it is skipped
 
     def head(self):
         """Returns the command from its first line that is no comment on. A root command is one line."""
@@ -183,11 +196,21 @@ def python_block(page, words):
 # A folder in which commands are run.
 
 
+def free_port():
+    """Returns a UDP port of this machine that is free, and that the system gives to no client by itself."""
+    while True:
+        port = random.randrange(21000, 32000)
+        with socket.socket(socket.AF_INET, socket.SOCK_DGRAM) as link, contextlib.suppress(OSError):
+            link.bind(("127.0.0.1", port))
+            return port
+
+
 class Room:
-    """A folder with `s10` on the path, and at most one server."""
+    """A folder with `s10` on the path, and at most one server. Commands use a free port where the pages show port 4000."""
 
     def __init__(self, folder):
         self.folder = Path(folder)
+        self.port = free_port()
         self.server = None
         self.notes = {}
         (self.folder / "bin").mkdir()
@@ -196,13 +219,21 @@ class Room:
         self.env.pop("S10", None)
         self.env["S10_LIBRARY"] = ""  # s10client.py uses no C library.
 
+    def ours(self, text):
+        """Returns the text of a page with the port of this room."""
+        return re.sub(r'(127\.0\.0\.1(?::| |", ))4000\b', rf"\g<1>{self.port}", text)
+
+    def shown(self, line):
+        """Returns a line of ours as the page shows it."""
+        return re.sub(rf"\b127\.0\.0\.1:{self.port}\b", "127.0.0.1:4000", line)
+
     def run(self, text, stderr=subprocess.PIPE):
         """Runs a command. Returns its exit status and the lines of its output."""
         done = subprocess.run(
-            ["bash", "-c", text], cwd=self.folder, env=self.env, stdin=subprocess.DEVNULL, stdout=subprocess.PIPE, stderr=stderr,
-            text=True, check=False, timeout=TIME_LIMIT,
+            ["bash", "-c", self.ours(text)], cwd=self.folder, env=self.env, stdin=subprocess.DEVNULL, stdout=subprocess.PIPE,
+            stderr=stderr, text=True, check=False, timeout=TIME_LIMIT,
         )  # fmt: skip
-        return done.returncode, done.stdout.splitlines()
+        return done.returncode, [self.shown(line) for line in done.stdout.splitlines()]
 
     def must(self, text, *words):
         """Runs a command that the pages do not show. Returns its output, which must have the words."""
@@ -214,26 +245,39 @@ class Room:
     def serve(self, text):
         """Starts a server and waits for its address. Returns the lines of its standard error up to then."""
         self.stop()
-        command = ["bash", "-c", f"exec {text} > turns"]
+        command = ["bash", "-c", f"exec {self.ours(text)} > turns"]
         self.server = subprocess.Popen(command, cwd=self.folder, env=self.env, stderr=subprocess.PIPE, text=True)
         lines = []
         for line in self.server.stderr:
-            lines.append(line.rstrip("\n"))
+            lines.append(self.shown(line.rstrip("\n")))
             if line.startswith("serving on "):
                 return lines
         raise Failure("\n".join([text, *lines]))
 
-    def stop(self, number=signal.SIGINT):
-        """Ends the server by a signal, if there is one. Returns its turns."""
+    def turns(self):
+        """Returns the lines that the server has printed."""
+        return (self.folder / "turns").read_text(encoding="utf-8").splitlines()
+
+    def settle(self, least=0):
+        """Waits until the server has printed the lines of the replies that it has sent: at least so many lines, but for quiet
+        seconds, and no other one for a while."""
+        end = time.monotonic() + PATIENCE
+        known = None
+        while time.monotonic() < end and (len(busy(self.turns())) < least or known != len(busy(self.turns()))):
+            known = len(busy(self.turns()))
+            time.sleep(0.5)
+
+    def stop(self, number=signal.SIGINT, least=0):
+        """Ends the server by a signal, if there is one. Returns its turns, of which at least so many are not quiet."""
         if self.server is None:
             return []
         if number == signal.SIGINT:
-            time.sleep(0.3)  # The lines of a batch are printed after its replies are sent.
+            self.settle(least)
         self.server.send_signal(number)
         self.server.wait()
         self.server.stderr.close()
         self.server = None
-        return (self.folder / "turns").read_text(encoding="utf-8").splitlines()
+        return self.turns()
 
     def serve_new(self, first, last, draws):
         """Serves a new ledger with one granted range, from which customer 7 has drawn under the numbers from 1."""
@@ -286,6 +330,20 @@ def reason_not_to_run(command):
     return next((why for head, why in NOT_RUN if command.head().startswith(head)), None)
 
 
+def has_tool(tool):
+    """Returns whether the machine has a tool. An older `sqlite3` has no STRICT tables, and `man` may be a stand-in."""
+    tries = {"sqlite3": ["sqlite3", ":memory:", "CREATE TABLE t (n INTEGER) STRICT"], "man": ["man", "--version"]}
+    if shutil.which(tool) is None:
+        return False
+    return tool not in tries or subprocess.run(tries[tool], capture_output=True, check=False).returncode == 0
+
+
+def tool_lacking(command):
+    """Returns the tool that a command needs and the machine lacks, or nothing."""
+    needed = [tool for head, tools in TOOLS.items() if command.head().startswith(head) for tool in tools]
+    return next((tool for tool in needed if not has_tool(tool)), "")
+
+
 def handler_of(command, handlers):
     return next((it for head, it in handlers.items() if command.head().startswith(head)), run_and_compare)
 
@@ -293,22 +351,30 @@ def handler_of(command, handlers):
 def run_step(room, step, handlers):
     """Runs a command, or stops the server."""
     if isinstance(step, Stop):
-        turns = room.stop()
+        turns = room.stop(least=len(busy(step.shown)))
         if step.shown:
             compare("the lines of the server", busy(step.shown), busy(turns))
     elif reason_not_to_run(step) is None:
-        step.is_run = True
-        handler_of(step, handlers)(room, step)
+        step.lacks = tool_lacking(step)
+        if not step.lacks:
+            step.is_run = True
+            handler_of(step, handlers)(room, step)
 
 
 def run_page(room, steps, handlers):
-    """Runs the steps of a page in order. A handler runs each command that begins as its key does. Returns the failures."""
+    """Runs the steps of a page in order. A handler runs each command that begins as its key does. Returns the failures. A command
+    after one of `sqlite3` may need what that one did, so it is skipped with it."""
     failures = []
-    for step in steps:
+    for at, step in enumerate(steps):
         try:
             run_step(room, step, handlers)
         except (Failure, subprocess.TimeoutExpired) as failure:
             failures.append(str(failure))
+        if isinstance(step, Command) and step.lacks == "sqlite3":
+            for later in commands_in(steps[at:]):
+                later.lacks = step.lacks
+            room.stop()
+            break
     return failures
 
 
@@ -335,9 +401,9 @@ def serve_in_a_loop(room, command):
     copies = room.folder / "audits"
     with open(copies, "w", encoding="utf-8") as output:
         loop = subprocess.Popen(
-            ["bash", "-c", text], cwd=room.folder, env=room.env, stdout=output, stderr=subprocess.DEVNULL, start_new_session=True
+            ["bash", "-c", room.ours(text)], cwd=room.folder, env=room.env, stdout=output, stderr=subprocess.DEVNULL, start_new_session=True
         )
-        end = time.monotonic() + 30
+        end = time.monotonic() + 120
         while time.monotonic() < end and copies.read_text(encoding="utf-8").count("\n") < 2:
             time.sleep(0.2)
         os.killpg(loop.pid, signal.SIGTERM)
@@ -350,6 +416,7 @@ def serve_in_a_loop(room, command):
 def copy_of_a_killed_server(room, command):
     """Copies both files after a server was killed after a grant and five draws."""
     room.serve_new(0, 9, draws=5)
+    room.settle(6)
     room.stop(signal.SIGKILL)
     run_and_compare(room, command)
 
@@ -367,7 +434,7 @@ def copy_without_its_log(room, command):
 def copy_while_served(room, command):
     """Runs the script that copies a ledger which is being served. The copy must have each answered call."""
     room.serve_new(0, 9, draws=3)
-    time.sleep(0.3)
+    room.settle(4)
     status, came = room.run(command.text)
     found = re.fullmatch(r"ledger ok (\d+)\nanswered before: (\d+)", "\n".join(came))
     if status != 0 or not found or not 4 == int(found[2]) <= int(found[1]):
@@ -421,7 +488,7 @@ def draw_by_the_client(room, command):
     """Runs the client of the page, on a server on which customer 7 has drawn two of its three serials."""
     client = room.folder / "draw.py"
     if not client.exists():
-        client.write_text(python_block("contrib/README.md", "def draw("), encoding="utf-8")
+        client.write_text(room.ours(python_block("contrib/README.md", "def draw(")), encoding="utf-8")
         room.serve_new(0, 2, draws=2)
     run_and_compare(room, command)
 
@@ -443,7 +510,8 @@ def checksums(room, command):
 
 def count_turns(room, command):
     """Draws once more by s10client.py, stops the server, and counts its turns. The number of quiet seconds is any."""
-    (room.folder / "python/example.py").write_text(python_block("contrib/README.md", "make_notes("), encoding="utf-8")
+    example = room.ours(python_block("contrib/README.md", "make_notes("))
+    (room.folder / "python/example.py").write_text(example, encoding="utf-8")
     compare("the example of s10client.py", ["RA000000014GB"], room.must("python3 python/example.py"))
     room.stop()
     _, came = room.run(command.text)
@@ -525,7 +593,7 @@ def run_pages(pages):
 def uncovered(pages):
     """Returns the commands that are neither run nor in NOT_RUN, and the entries of NOT_RUN without a command."""
     commands = [it for steps in pages.values() for it in commands_in(steps)]
-    missed = [it for it in commands if not it.is_run and reason_not_to_run(it) is None]
+    missed = [it for it in commands if not it.is_run and not it.lacks and reason_not_to_run(it) is None]
     stale = [head for head, _ in NOT_RUN if not any(it.head().startswith(head) for it in commands)]
     return [f"{it.where()}\nneither run nor in NOT_RUN" for it in missed] + [f"NOT_RUN: no page has {head}" for head in stale]
 
@@ -536,9 +604,13 @@ def print_counts(pages):
         is_run = [it.is_run for it in commands_in(steps)]
         if is_run:
             print(f"{page}: {is_run.count(True)} commands run, {is_run.count(False)} not run")
+        for tool in sorted({it.lacks for it in commands_in(steps)} - {""}):
+            print(f"skipped {page}: {sum(it.lacks == tool for it in commands_in(steps))} commands: {tool}")
 
 
 def main():
+    # A process that a shell starts in the background ignores Ctrl-C, and so would the servers.
+    signal.signal(signal.SIGINT, signal.default_int_handler)
     pages = read_pages()
     failures = counts.check() + run_pages(pages)
     failures += uncovered(pages)

@@ -48,7 +48,7 @@ serve() { # COUNT
     : >told
     "$s10" serve --ledger "$ledger" --bind 127.0.0.1:0 --count "$1" --day 20000 >turns 2>told &
     server=$!
-    for _ in $(seq 100); do
+    for _ in $(seq 600); do
         address=$(sed -n 's/^serving on //p' told)
         if [ -n "$address" ]; then return; fi
         sleep 0.1
@@ -68,7 +68,7 @@ stop() {
 begin() { # BYTES COUNT
     mount -t tmpfs -o size=8m tmpfs "$disk"
     head -c "$1" /dev/zero >"$disk/filler"
-    rm -f answers.* left.* after.*
+    rm -f answers.* left.* last.* after.* enough
     [ "$("$s10" create --ledger "$ledger" --interval 30 --limit 1000000)" = created ] || fail create
     serve "$2"
     "$s10" grant --to "$address" --number 1 --holder 7 --service RA --country GB --first 0 --last 99999999 >/dev/null || fail grant
@@ -101,19 +101,26 @@ number_in() { # LINE
     printf '%s\n' "$1" | sed 's/.* number \([0-9]*\) .*/\1/'
 }
 
-# Draws with every CLIENTS-th number, starting with its own, until a draw gets no reply. That number is `left`.
+# Draws with every CLIENTS-th number, starting with its own, until a draw gets no reply. That number is `left`. Until the file
+# `enough` is there it asks again.
 client() { # FIRST_NUMBER
     number=$1
-    while [ "$number" -le $((1000 * clients)) ] && draw "$number" 3 >>"answers.$1"; do
-        number=$((number + clients))
+    while [ "$number" -le $((1000 * clients)) ]; do
+        if draw "$number" 3 >"last.$1"; then
+            cat "last.$1" >>"answers.$1"
+            number=$((number + clients))
+        elif [ -e enough ] || ! grep -qx gave-up "last.$1"; then
+            break
+        fi
     done
+    cat "last.$1" >>"answers.$1"
     echo "$number" >"left.$1"
 }
 
 # Draws again with the number that is left, and then with the next one.
 continue_client() { # FIRST_NUMBER
     left=$(cat "left.$1")
-    draw "$left" 5 >"after.$1" && draw $((left + clients)) 5 >>"after.$1"
+    draw "$left" 20 >"after.$1" && draw $((left + clients)) 20 >>"after.$1"
 }
 
 # Prints how many turns of the server withheld a reply.
@@ -159,6 +166,11 @@ fill_and_free() { # BYTES COMMAND WORDS
     done
     $2 || fail "not reached in a minute: $2"
     fill
+    for _ in $(seq 1200); do
+        if grep -q '^faulted store$' turns; then break; fi
+        sleep 0.1
+    done
+    : >enough
     for client in $running; do wait "$client" || fail 'a client'; done
 
     # The disk is full, and no client draws.
@@ -173,7 +185,7 @@ fill_and_free() { # BYTES COMMAND WORDS
         for line in 1 '$'; do
             before=$(done_draws "answers.$first" | sed -n "${line}p")
             if [ -n "$before" ]; then
-                [ "$(draw "$(number_in "$before")" 5)" = "$before" ] || fail "a repeat on a full disk: $before"
+                [ "$(draw "$(number_in "$before")" 20)" = "$before" ] || fail "a repeat on a full disk: $before"
             fi
         done
     done
@@ -184,7 +196,7 @@ fill_and_free() { # BYTES COMMAND WORDS
 
     # The same server, with space. The first draw is a new one; the calls that are pending are committed with it.
     free
-    draw $((2000 * clients)) 5 >after.new || fail 'a new draw once there is space'
+    draw $((2000 * clients)) 20 >after.new || fail 'a new draw once there is space'
     running=
     for first in $(seq "$clients"); do
         continue_client "$first" &
@@ -198,7 +210,7 @@ fill_and_free() { # BYTES COMMAND WORDS
     check_turns all
     for first in $(seq "$clients"); do
         before=$(head -n 1 "after.$first")
-        [ "$(draw "$(number_in "$before")" 5)" = "$before" ] || fail "a repeat once there is space: $before"
+        [ "$(draw "$(number_in "$before")" 20)" = "$before" ] || fail "a repeat once there is space: $before"
     done
     stop
     check_ledger "$ledger" all
@@ -222,10 +234,10 @@ fill_and_free 0 is_moved 'after the log was moved'
 use_up() { # COUNT
     before=$(sed -n 1p answers.1)
     for _ in $(seq "$1"); do
-        again=$(draw 1 1) || break
+        again=$(draw 1 3) || break
         [ "$again" = "$before" ] || fail "a repeat: $again, not $before"
     done
-    for _ in $(seq 100); do
+    for _ in $(seq 600); do
         if [ "$(wc -l <turns)" -ge "$1" ]; then break; fi
         sleep 0.1
     done
@@ -239,7 +251,7 @@ use_up() { # COUNT
 count=120
 begin 0 "$count"
 number=1
-while draw "$number" 1 >>answers.1; do
+while draw "$number" 3 >>answers.1; do
     [ "$number" != 5 ] || fill
     [ "$number" -lt 1000 ] || fail 'draws get replies though the disk is full'
     number=$((number + 1))

@@ -5,13 +5,14 @@
 
 PROGRAM is by default crates/s10/out/s10, LIBRARY.a is crates/s10_c/out/libs10_c.a. The pages are those of LIBRARY_PAGES in
 documents.py. The programs on contrib/bindings/README.md must be the files beside it. A block of commands is skipped, and said to
-be, if the machine lacks what it needs. Each other command is run, or is in NOT_RUN with the reason. Needs port 4000 of this
-machine. The last line is `library pages ok`, or the status is not 0.
+be, if the machine lacks what it needs. Each other command is run, or is in NOT_RUN with the reason. The last line is
+`library pages ok`, or the status is not 0.
 """
 
 import os
 import re
 import shutil
+import signal
 import subprocess
 import sys
 from pathlib import Path
@@ -151,7 +152,7 @@ def build_client(room, command):
 
 def label_in_python(room, command):
     """Runs the example of the page over a new ledger."""
-    (room.folder / "label.py").write_text(documents.python_block(command.page, "draw_many"), encoding="utf-8")
+    (room.folder / "label.py").write_text(room.ours(documents.python_block(command.page, "draw_many")), encoding="utf-8")
     room.serve_new(0, 99, draws=0)
     run_and_compare(room, command)
 
@@ -225,6 +226,7 @@ def wrong_listings():
 
 
 def main():
+    signal.signal(signal.SIGINT, signal.default_int_handler)
     if not LIBRARY.exists():
         sys.exit(f"{LIBRARY} is not built: cd crates/s10_c && rt lib")
     failures = wrong_listings()

@@ -5,7 +5,7 @@ at the second, and so on (checks/refuse.c). Each series ends with a run that mee
 After each run the program must open the ledger. It must have the calls that got a reply, and no others but earlier ones whose reply
 was withheld. Asked again, each call must get the reply that it got, or the one that was withheld.
 
-  python3 checks/refused_program.py [PROGRAM]
+  python3 checks/refused_program.py [PROGRAM [STEP]]     with a STEP only each STEP-th request for memory is refused, from the first on
 """
 
 import contextlib
@@ -22,6 +22,8 @@ from pathlib import Path
 
 HERE = Path(__file__).resolve().parent
 PROGRAM = str(Path(sys.argv[1] if len(sys.argv) > 1 else HERE / "../crates/s10/out/s10").resolve())
+
+STEP = int(sys.argv[2]) if len(sys.argv) > 2 else 1
 
 # FIRST: the post grants RA GB 0 to 2 to customer 7, who draws serials 0 and 1, voids 1 twice, draws serial 2, and finds no other
 # serial free. LATER, 30 days after: it draws 0 and 1 again. TENTH draws 2 again; WITHDRAW closes the range instead. SHEET draws all
@@ -161,9 +163,9 @@ def check_serving(name, ledger, before, day, datagrams, replies, turns):
         fail(f"{name}: another reply to a call that is handed in again")
 
 
-def each_refusal(name, room, refusals, do):
-    """Calls `do` for 1, 2, .. until nothing is refused, several side by side, each in a folder of its own. Prints how many were
-    refused."""
+def each_refusal(name, room, refusals, do, step=1):
+    """Calls `do` for 1, 1 + step, .. until nothing is refused, several side by side, each in a folder of its own. Prints how many
+    were refused."""
 
     def tried(at):
         here = f"{room}/here-{at}"
@@ -176,9 +178,9 @@ def each_refusal(name, room, refusals, do):
         return is_refused
 
     count, whole = 0, True
-    with ThreadPoolExecutor(os.cpu_count()) as several:
+    with ThreadPoolExecutor(len(os.sched_getaffinity(0))) as several:
         while whole:
-            found = list(several.map(tried, range(count + 1, count + 65)))
+            found = list(several.map(tried, [1 + step * at for at in range(count, count + (64 if step == 1 else 8))]))
             whole = all(found)
             count += found.index(False) if not whole else len(found)
     if count == 0:
@@ -200,7 +202,7 @@ def refuse_memory(room):
         if audit(f"{here}/ledger") != "ledger ok 0":
             fail(f"{name}: {audit(f'{here}/ledger')}")
 
-    each_refusal("requests for memory of create", room, refusals, create)
+    each_refusal("requests for memory of create", room, refusals, create, STEP)
 
     nine = make(f"{room}/nine", [(20000, FIRST), (20030, LATER)])
 
@@ -213,14 +215,14 @@ def refuse_memory(room):
         if Path(ledger).read_bytes() != before or audit(ledger) != "ledger ok 9":
             fail(f"{name}: the ledger is another")
 
-    each_refusal("requests for memory of audit", room, refusals, look)
+    each_refusal("requests for memory of audit", room, refusals, look, STEP)
 
     earlier = forget_closed(copied(nine, f"{room}/earlier"))
 
     def complete(name, here, env):
         check_completing(name, copied(earlier, here), env)
 
-    each_refusal("requests for memory of audit of an earlier build's", room, refusals, complete)
+    each_refusal("requests for memory of audit of an earlier build's", room, refusals, complete, STEP)
 
     for what, kept, day, datagrams in (
         ("seven calls", [], 20000, FIRST),
@@ -235,7 +237,7 @@ def refuse_memory(room):
             ledger = copied(base, here)
             check_serving(name, ledger, told, day, datagrams, *served(ledger, day, datagrams, env))
 
-        each_refusal(f"requests for memory of a server of {what}", room, refusals, answer)
+        each_refusal(f"requests for memory of a server of {what}", room, refusals, answer, STEP)
 
 
 def stop_server(room, what, calls, asked, reply):

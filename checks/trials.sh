@@ -4,19 +4,49 @@
 # standard error, which are those of docs/TROUBLESHOOTING.md, and must change its folder as given: `+ledger-wal 41` is a new file of
 # 41 bytes, `~ledger 4096` a file that changed, `-text` a file that was removed.
 #
-# It mounts small filesystems, in a namespace of its own, and runs commands as `nobody`, so it must run as root.
+# As root it also mounts small filesystems, in a namespace of its own, and runs commands as `nobody`. Otherwise the trials of other
+# users, of read-only mounts and of full disks are skipped.
 #
 #     sh checks/trials.sh [PROGRAM]
 set -eu
 
-if [ "${2:-}" != inside ]; then
-    program=$(readlink -f "${1:-$(dirname "$(readlink -f "$0")")/../crates/s10/out/s10}")
-    exec unshare --mount --propagation private sh "$0" "$program" inside
-fi
+nobody='setpriv --reuid=65534 --regid=65534 --clear-groups'
 
+# Prints why the trials that need root cannot be run.
+lacking() { # FOLDER
+    if [ "$(id -u)" != 0 ]; then
+        echo root
+    elif ! unshare --mount --propagation private mount -t tmpfs -o size=1m tmpfs "$1" 2>/dev/null; then
+        echo 'a namespace in which root may mount a file system'
+    elif ! $nobody "$1/tried" 2>/dev/null; then
+        echo "a folder in which nobody may run a program: $1"
+    fi
+}
+
+case ${2:-} in
+    inside | alone) ;;
+    *)
+        program=$(readlink -f "${1:-$(dirname "$(readlink -f "$0")")/../crates/s10/out/s10}")
+        if ! sqlite3 :memory: 'CREATE TABLE t (n INTEGER) STRICT' 2>/dev/null; then
+            echo 'skipped: sqlite3 from 3.37 on'
+            exit 0
+        fi
+        tried=$(mktemp -d)
+        chmod 755 "$tried"
+        cp /bin/true "$tried/tried"
+        why=$(lacking "$tried")
+        rm -rf "$tried"
+        [ -n "$why" ] || exec unshare --mount --propagation private sh "$0" "$program" inside
+        echo "skipped users, read-only, full, small: $why"
+        exec sh "$0" "$program" alone
+        ;;
+esac
+
+is_root=
+[ "$2" = alone ] || is_root=yes
 room=$(mktemp -d)
 server=
-trap 'stop; cd /; umount -q "$room/read-only" "$room/full" "$room/small" 2>/dev/null || true; rm -rf --one-file-system "$room"' EXIT
+trap 'stop; cd /; end_mounts; rm -rf --one-file-system "$room"' EXIT
 cp "$1" "$room/s10"
 chmod 755 "$room" "$room/s10"
 s10=$room/s10
@@ -26,6 +56,10 @@ count=0
 fail() {
     echo "failed: $1"
     exit 1
+}
+
+end_mounts() {
+    [ -z "$is_root" ] || umount -q "$room/read-only" "$room/full" "$room/small" 2>/dev/null || true
 }
 
 stop() {
@@ -96,7 +130,7 @@ create() { # STATUS LINE WORDS CHANGES FILE
 serve() { # FILE
     $as "$s10" serve --ledger "$1" --bind 127.0.0.1:0 --count 4294967295 --day 20000 >../turns 2>../told </dev/null &
     server=$!
-    for _ in $(seq 100); do
+    for _ in $(seq 600); do
         address=$(sed -n 's/^serving on //p' ../told)
         if [ -n "$address" ]; then return; fi
         sleep 0.1
@@ -104,11 +138,12 @@ serve() { # FILE
     fail "the server over $1 does not start"
 }
 
-# Asks the server, in one try.
+# Asks the server.
+tries=5
 ask() { # COMMAND OPTIONS..
     command=$1
     shift
-    "$s10" "$command" --to "$address" --tries 1 "$@"
+    "$s10" "$command" --to "$address" --tries "$tries" "$@"
 }
 
 draw() { # NUMBER
@@ -128,7 +163,6 @@ group() { # NAME
     echo "$1"
 }
 
-nobody='setpriv --reuid=nobody --regid=nogroup --clear-groups'
 note='CREATE TABLE note (serial INTEGER NOT NULL, text TEXT NOT NULL) STRICT'
 
 group files
@@ -190,13 +224,48 @@ done
 sqlite3 ledger "$note; INSERT INTO note VALUES (1, CAST(zeroblob(12000000) AS TEXT))"
 tries 0 'ledger ok 0' 'opening ledger: 12 MB' '+ledger-wal 41' audit --ledger ledger
 
+# A ledger that is refused keeps what it held: also one that is damaged, and a log beside a file that is no database.
+group refusals
+create 0 created '' '+ledger 32768,+ledger-wal 41' ledger
+serve ledger
+ask grant --number 1 --holder 7 --service RA --country GB --first 0 --last 2 >../answers
+draw 1 >>../answers
+draw 2 >>../answers
+[ "$(grep -c ' done ' ../answers)" = 3 ] || fail 'the calls before the refusals'
+stop
+tries 0 'ledger ok 3' '' '' audit --ledger ledger
+tries 0 'range customer service country first last used voided free|1 7 RA GB 00000000 00000002 2 0 1' '' \
+    '~ledger 32768,~ledger-wal 41' report --ledger ledger --day 20000
+create 3 'ledger not-empty' '' '~ledger-wal 41' ledger
+tries 0 'ledger ok 3' '' '~ledger-wal 41' audit --ledger ledger
+cp ledger before
+while IFS='|' read -r line change; do
+    cp before broken
+    sqlite3 broken "$change"
+    tries 3 "$line" '' '+broken-wal 41' audit --ledger broken
+    refused broken "$line" '' '~broken-wal 41'
+    create 3 'ledger not-empty' '' '~broken-wal 41' broken
+    [ "$(sqlite3 -readonly broken 'PRAGMA integrity_check')" = ok ] || fail "the file that is $line"
+    rm -f broken broken-*
+done <<'END'
+ledger schema 2|UPDATE head SET schema = 2
+ledger damaged 3|UPDATE calls SET day = 19999 WHERE arrival = 3
+ledger damaged 0|UPDATE ranges SET mark = 0
+ledger not-a-ledger|DELETE FROM head
+END
+printf 'a text, and longer than sixteen bytes\n' >text
+printf 'its log' >text-wal
+refused text 'ledger store' 'cannot open text: it is not a database' ''
+create 3 'ledger store' 'cannot open text: it is not a database' '' text
+
+if [ -n "$is_root" ]; then
 group users
 create 0 created '' '+ledger 32768,+ledger-wal 41' ledger
 mkdir -m 700 inside
 cp ledger inside/
 install -m 600 ledger private
-install -m 444 -o nobody ledger read-only
-install -m 644 -o nobody ledger own
+install -m 444 -o 65534 ledger read-only
+install -m 644 -o 65534 ledger own
 as=$nobody
 for file in ledger private read-only; do
     refused "$file" 'ledger store' "cannot open $file: Permission denied (os error 13)" ''
@@ -247,6 +316,7 @@ serve ledger
 ask grant --number 1 --holder 7 --service RA --country GB --first 0 --last 99999 >../answers
 draw 1 >>../answers
 fill
+tries=1
 number=2
 while draw "$number" >>../answers; do
     number=$((number + 1))
@@ -254,12 +324,14 @@ done
 [ "$(grep -c '^uncommitted store$' ../turns)" = 1 ] || fail 'a full disk is no fault of one turn'
 [ "$(draw 1)" = "$(sed -n 2p ../answers)" ] || fail 'a repeat on a full disk'
 if draw "$number" >../again; then fail 'a reply while its call cannot be written'; fi
+tries=5
 rm filler
 [ "$(draw 1)" = "$(sed -n 2p ../answers)" ] || fail 'a repeat once there is room'
 draw "$number" >../again || fail 'a draw once there is room'
 [ "$(wc -l <../told)" = 2 ] || fail 'words on standard error of a full disk'
 stop
 tries 0 "ledger ok $((number + 1))" '' '' audit --ledger ledger
+fi
 
 group taken
 create 0 created '' '+ledger 32768,+ledger-wal 41' ledger
@@ -278,7 +350,7 @@ sqlite3 other <../statements &
 server=$!
 exec 3>../statements
 echo 'BEGIN EXCLUSIVE;' >&3
-sleep 1
+sleep 3
 refused other 'ledger store' 'cannot open other: database is locked' ''
 create 3 'ledger store' 'cannot open other: database is locked' '' other
 exec 3>&-

@@ -79,6 +79,9 @@ def write_packets(path, datagrams):
 
 def main():
     """Compares, and prints how many were compared."""
+    if "with Lua" not in subprocess.run(["tshark", "--version"], capture_output=True, text=True, check=True).stdout:
+        print("skipped: tshark with Lua")
+        return 0
     choose = random.Random(1)
     rights = right_ones()
     datagrams = rights + [changed(choose.choice(rights), choose) for _ in range(COUNT)]

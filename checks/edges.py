@@ -1,0 +1,210 @@
+#!/usr/bin/env python3
+"""Tries what the program does at its edges: at which addresses its sockets are and what they send, what it says of a wrong command
+line, and what its help says of the exit statuses.
+
+  python3 checks/edges.py [PROGRAM]
+
+Each part prints a line. The sockets of a process are read from /proc; without it that part is skipped.
+"""
+
+import os
+import re
+import signal
+import socket
+import subprocess
+import sys
+import tempfile
+import time
+from pathlib import Path
+
+HERE = Path(__file__).resolve().parent
+PROGRAM = str(Path(sys.argv[1] if len(sys.argv) > 1 else HERE / "../crates/s10/out/s10").resolve())
+PATIENCE = 30  # seconds
+GRANT = bytes.fromhex("53310101000000000000000100000007524147420000000000000002")
+GRANTED = bytes.fromhex("533101810000000000000001000000075241474200000000000000020000000001")
+DRAW = ["draw", "--customer", "7", "--number", "1", "--service", "RA", "--country", "GB"]
+
+
+class Failed(Exception):
+    """The program does something else than it must."""
+
+
+def same(what, expected, came):
+    if expected != came:
+        raise Failed(f"{what}: expected {expected!r}, came {came!r}")
+
+
+def run(*words):
+    """Runs the program as `s10`. Returns its status and its two outputs."""
+    done = subprocess.run(["s10", *words], executable=PROGRAM, stdin=subprocess.DEVNULL, capture_output=True, text=True, check=False, timeout=60)
+    return done.returncode, done.stdout, done.stderr
+
+
+# Sockets.
+
+
+def sockets_of(process):
+    """Returns the addresses of the UDP sockets of a process."""
+    links = [os.readlink(it) for it in Path(f"/proc/{process}/fd").iterdir() if it.is_symlink()]
+    found = []
+    for line in Path("/proc/net/udp").read_text(encoding="ascii").splitlines()[1:]:
+        words = line.split()
+        if f"socket:[{words[9]}]" in links:
+            ip, port = words[1].split(":")
+            found.append((socket.inet_ntoa(int(ip, 16).to_bytes(4, sys.byteorder)), int(port, 16)))
+    return found
+
+
+def wait_for_sockets(process):
+    """Waits until a process has a socket. Returns the addresses of its sockets."""
+    end = time.monotonic() + PATIENCE
+    while time.monotonic() < end:
+        found = sockets_of(process)
+        if found:
+            return found
+        time.sleep(0.02)
+    raise Failed("no socket")
+
+
+def all_datagrams(link, wait):
+    """Returns each datagram that comes until none came for so many seconds, with its sender."""
+    found = []
+    link.settimeout(wait)
+    while True:
+        try:
+            found.append(link.recvfrom(2048))
+        except socket.timeout:
+            return found
+
+
+def udp_socket(ip):
+    link = socket.socket(socket.AF_INET, socket.SOCK_DGRAM)
+    link.bind((ip, 0))
+    return link
+
+
+def try_server(folder):
+    """A server is at the address that was asked for, alone, and sends one reply, from there."""
+    ledger = f"{folder}/ledger"
+    same("create", (0, "created\n", ""), run("create", "--ledger", ledger, "--interval", "30", "--limit", "1000"))
+    words = ["s10", "serve", "--ledger", ledger, "--bind", "127.0.0.2:0", "--count", "4294967295", "--day", "20000"]
+    with subprocess.Popen(words, executable=PROGRAM, stdout=subprocess.PIPE, stderr=subprocess.PIPE, text=True) as server, udp_socket("127.0.0.1") as link:
+        try:
+            told = [server.stderr.readline(), server.stderr.readline()]
+            found = sockets_of(server.pid)
+            same("the sockets of a server", 1, len(found))
+            same("its address", "127.0.0.2", found[0][0])
+            same("the lines of a server", [f"opening {ledger}\n", f"serving on 127.0.0.2:{found[0][1]}\n"], told)
+            link.sendto(GRANT, ("127.0.0.1", found[0][1]))
+            same("the replies at another address", [], all_datagrams(link, 1))
+            link.sendto(GRANT, found[0])
+            link.settimeout(PATIENCE)
+            came = [link.recvfrom(2048), *all_datagrams(link, 1)]
+            same("the replies", [(GRANTED, found[0])], came)
+        finally:
+            server.send_signal(signal.SIGKILL)
+        lines = [line for line in server.stdout.read().splitlines() if line != "quiet"]
+    same("the turns", [f"replied {GRANTED.hex()}"], lines)
+    print("a server: one socket, at its address; one reply, from there")
+
+
+def try_client(_):
+    """A command that asks has one socket, which any machine can reply to, and sends the same request at most as often as it says."""
+    tries = 3
+    with udp_socket("127.0.0.2") as server:
+        to = f"127.0.0.2:{server.getsockname()[1]}"
+        words = ["s10", *DRAW, "--to", to, "--tries", str(tries)]
+        with subprocess.Popen(words, executable=PROGRAM, stdout=subprocess.PIPE, stderr=subprocess.PIPE, text=True) as client:
+            found = wait_for_sockets(client.pid)
+            out, err = client.communicate(timeout=PATIENCE + 2 * tries)
+        same("the sockets of a client", 1, len(found))
+        same("its address", "0.0.0.0", found[0][0])
+        same("its end", (3, "gave-up\n", ""), (client.returncode, out, err))
+        came = all_datagrams(server, 0.5)
+        same("its datagrams", [bytes.fromhex("53310102000000070000000152414742")] * tries, [it for it, _ in came])
+        same("its ports", {found[0][1]}, {sender[1] for _, sender in came})
+    print(f"a client: one socket, at every address; {tries} sends of one request, to the server alone")
+
+
+# Words.
+
+WRONG = (
+    ["bogus"],
+    ["--bogus"],
+    ["draw"],
+    [*DRAW, "--to", "127.0.0.1:9", "--tries", "101"],
+    [*DRAW, "--to", "127.0.0.1:9", "--to", "127.0.0.1:9"],
+    ["check"],
+    ["check", "RA473124829US", "RA473124829US"],
+    ["create", "--ledger", "ledger", "--interval", "x", "--limit", "1"],
+    ["serve", "--ledger", "ledger", "--bind", "127.0.0.1:0", "--count", "none"],
+    ["help", "bogus"],
+)
+
+
+def try_wrong_lines(_):
+    """What is no command line has status 2, nothing on standard output, and one error on standard error."""
+    for words in WRONG:
+        status, out, err = run(*words)
+        same(f"s10 {' '.join(words)}: status and output", (2, ""), (status, out))
+        same(f"s10 {' '.join(words)}: errors", 1, len(re.findall("^error: ", err, re.MULTILINE)))
+        same(f"s10 {' '.join(words)}: begins with its error", True, err.startswith("error: "))
+    status, out, err = run()
+    same("s10 without words: status and output", (2, ""), (status, out))
+    same("s10 without words: its help", run("--help")[1], err)
+    print(f"{len(WRONG) + 1} wrong command lines: status 2, and one error")
+
+
+def try_help(_):
+    """Help stands once, on standard output."""
+    commands = re.findall(r"^  (\w+) ", run("--help")[1].split("Commands:\n")[1].split("\n\n")[0], re.MULTILINE)
+    asked = [["--help"], ["-h"], ["help"], *([it, "--help"] for it in commands if it != "help"), *(["help", it] for it in commands if it != "help")]
+    for words in asked:
+        status, out, err = run(*words)
+        name = f"s10 {' '.join(words)}"
+        same(f"{name}: status and errors", (0, ""), (status, err))
+        same(f"{name}: how often it stands", (1, 1), (len(re.findall("^Usage: s10", out, re.MULTILINE)), out.count(out.split("\n")[0])))
+    same("the forms of help", 1, len({run(*words)[1] for words in asked[:3]}))
+    print(f"{len(asked)} forms of help: each stands once")
+
+
+def try_statuses(folder):
+    """Help names the statuses with which commands end."""
+    text = re.search(r"^Exit status: (.*?)\. ", run("--help")[1].replace("\n", " ").replace("  ", " ").replace(" Exit status", "\nExit status"), re.MULTILINE)[1]
+    named = dict(re.findall(r"(\d) ([^;]*)", text))
+    words = {"0": "done", "1": "refused", "2": "no command line", "3": "failed"}
+    same("the statuses that help names", sorted(words), sorted(named))
+    for status, word in words.items():
+        same(f"what help says of status {status}", True, word in named[status])
+    ends = {
+        0: (["check", "RA473124829US"], ["--version"], ["help", "draw"]),
+        1: (["check", "RA473124828US"], ["make", "RA", "1", "GB"], [*DRAW, "--to", "nowhere"]),
+        2: (["bogus"], ["audit"]),
+        3: (["audit", "--ledger", f"{folder}/missing"], ["report", "--ledger", f"{folder}/no/ledger"]),
+    }
+    for status, lines in ends.items():
+        for line in lines:
+            same(f"the status of s10 {' '.join(line)}", status, run(*line)[0])
+    print("the statuses are those that help names")
+
+
+def main():
+    signal.signal(signal.SIGINT, signal.default_int_handler)
+    parts = [try_wrong_lines, try_help, try_statuses]
+    if Path("/proc/net/udp").exists():
+        parts += [try_server, try_client]
+    else:
+        print("skipped sockets: /proc/net/udp")
+    failed = 0
+    for part in parts:
+        with tempfile.TemporaryDirectory() as folder:
+            try:
+                part(folder)
+            except (Failed, subprocess.TimeoutExpired) as why:
+                failed += 1
+                print(f"failed: {part.__name__}: {why}")
+    return 1 if failed else 0
+
+
+if __name__ == "__main__":
+    sys.exit(main())

@@ -1,0 +1,167 @@
+#!/usr/bin/env bash
+# The test command, which `.ci/run` calls: proves and tests everything by `rt ci`, and then runs the checks below over the program
+# that it built.
+#
+#     bash checks/gate.sh                               everything
+#     bash checks/gate.sh --checks [PROGRAM [NAME..]]   the checks alone, or those of these names, over a program that is built
+#
+# Each check has a line with its seconds. Its output is shown if it fails; what it skipped is always shown. A check is skipped if
+# the machine lacks a tool that it needs, if it wants root and there is none, or if there is no program; this fails nothing. The
+# last line is `N passed, M failed`, of `rt ci` and of the checks together. The status is that of the worst.
+set -u -o pipefail
+
+top=$(dirname "$(dirname "$(readlink -f "${BASH_SOURCE[0]}")")")
+room=$(mktemp -d) || exit
+trap 'end' EXIT
+trap 'exit 130' INT
+trap 'exit 143' TERM
+mkdir "$room/bin"
+s10=$room/bin/s10
+library=$room/libs10_c.a
+chosen=()
+passed=0 failed=0 skipped=0 running=
+
+# Ends the check that runs, and removes what is ours.
+end() {
+    if [ -n "$running" ]; then
+        kill "$running" 2>/dev/null
+        wait "$running" 2>/dev/null
+    fi
+    rm -rf --one-file-system "$room"
+}
+
+# Prints the first of these tools that the machine lacks. `python3` must not be older than the scripts. `program` and `library`
+# are what was built.
+lacking() { # TOOL..
+    local tool
+    for tool in "$@"; do
+        case $tool in
+            root) [ "$(id -u)" = 0 ] || { echo root; return; } ;;
+            program) [ -x "$s10" ] || { echo 'the program'; return; } ;;
+            library) [ -e "$library" ] || { echo 'the C library'; return; } ;;
+            git) git -C "$top" rev-parse -q --verify HEAD >/dev/null 2>&1 || { echo 'git with this repository'; return; } ;;
+            python3) python3 -c 'import sys; sys.exit(sys.version_info < (3, 10))' 2>/dev/null || { echo 'python3 from 3.10 on'; return; } ;;
+            *) command -v "$tool" >/dev/null || { echo "$tool"; return; } ;;
+        esac
+    done
+}
+
+tell() { # RESULT SECONDS NAME
+    printf '%-7s %4s s  %s\n' "$1" "$2" "$3"
+}
+
+# Whether a check is one of those that are asked for.
+is_chosen() { # NAME
+    [ ${#chosen[@]} -eq 0 ] || [[ " ${chosen[*]} " == *" $1 "* ]]
+}
+
+# Runs a check for at most LIMIT seconds, and tells its result. TOOLS are what it needs.
+check() { # NAME LIMIT TOOLS COMMAND..
+    local name=$1 limit=$2 missing start status=0
+    is_chosen "$name" || return
+    # Word splitting separates the tools.
+    # shellcheck disable=SC2086
+    missing=$(lacking $3)
+    if [ -n "$missing" ]; then
+        skipped=$((skipped + 1))
+        tell skipped 0 "$name: no $missing"
+        return
+    fi
+    start=$SECONDS
+    timeout --kill-after=30 "$limit" "${@:4}" </dev/null >"$room/output" 2>&1 &
+    running=$!
+    wait "$running" || status=$?
+    running=
+    judge "$name" $((SECONDS - start)) "$status" "$limit"
+}
+
+# Tells the result of a check by its status and its output.
+judge() { # NAME SECONDS STATUS LIMIT
+    if [ "$3" -ne 0 ]; then
+        failed=$((failed + 1))
+        tell FAILED "$2" "$1: $([ "$3" -eq 124 ] && echo "not ended after $4 s" || echo "status $3")"
+        tail -n 40 "$room/output" | sed 's/^/    /'
+    elif grep -q '^skipped' "$room/output" && ! grep -qv '^skipped' "$room/output"; then
+        skipped=$((skipped + 1))
+        tell skipped "$2" "$1: $(sed -n '1s/^skipped[: ]*//p' "$room/output")"
+    else
+        passed=$((passed + 1))
+        tell passed "$2" "$1"
+        grep '^skipped' "$room/output" | sed 's/^/    /'
+    fi
+}
+
+# The checks, the quick ones first. contrib/README.md, which `pages` runs, tests the client in Python; `c_library` tests it with
+# the library, and runs the commands of the pages about the library.
+run_checks() {
+    local checks=$top/checks contrib=$top/contrib memory=${TMPDIR:-/tmp}
+    if [ -w /dev/shm ]; then memory=/dev/shm; fi
+    # No setting of the user changes what a check does.
+    unset S10 S10_LIBRARY LIBRARY BROWSER MAINTAINER SOURCE_DATE_EPOCH PYTHONPATH GIT_DIR GIT_WORK_TREE GIT_INDEX_FILE
+    export LC_ALL=C.UTF-8 PYTHONDONTWRITEBYTECODE=1
+    cd "$room" || return
+    check counts 300 python3 python3 "$checks/counts.py"
+    check build_log 300 flock bash "$checks/build_log.sh"
+    check texts 300 'program python3' python3 "$contrib/write_texts.py" --check "$s10"
+    check edges 600 'program python3' python3 "$checks/edges.py" "$s10"
+    check completions 600 'program python3' env S10="$s10" python3 "$contrib/test_completions.py"
+    check dissector 900 'program python3 tshark' env S10="$s10" python3 "$contrib/test_dissector.py"
+    check pages 1800 'program python3' python3 "$checks/documents.py" "$s10"
+    check killed_server 900 program sh "$checks/killed_server.sh" "$s10"
+    check killed_server_64 900 program sh "$checks/killed_server.sh" "$s10" 64
+    check full_disk 1200 'program unshare mount' sh "$checks/full_disk.sh" "$s10"
+    check trials 1800 'program sqlite3' sh "$checks/trials.sh" "$s10"
+    check refused_program 1800 'program python3 cc' python3 "$checks/refused_program.py" "$s10" 211
+    check together 900 'program python3' env TMPDIR="$memory" python3 "$checks/together.py" "$s10"
+    check shards 900 'program python3' env TMPDIR="$memory" bash "$checks/shards.sh" "$s10" 2000
+    check sizes 1200 'program python3' env TMPDIR="$memory" python3 "$checks/sizes.py" "$s10"
+    check package 900 'program python3 git' bash "$checks/package.sh" "$s10"
+    check library 3600 'program rt' bash -c 'cd "$0" && rt lib && cp out/libs10_c.a "$1"' "$top/crates/s10_c" "$library"
+    check c_library 3600 'program library python3 make cc nm' env LIBRARY="$library" bash "$checks/c_library.sh" "$s10" 50
+    check counter_page 3600 'library python3 rt' bash "$checks/counter_page.sh"
+}
+
+# Runs `rt ci`. Sets its status, and adds what it counted.
+prove() {
+    local last start=$SECONDS
+    (cd "$top" && PYTHONUNBUFFERED=1 rt ci) | tee "$room/proved"
+    status=${PIPESTATUS[0]}
+    last=$(sed -nE 's/^([0-9]+) passed, ([0-9]+) failed$/\1 \2/p' "$room/proved" | tail -n 1)
+    [ -n "$last" ] || last='0 1'
+    proved=${last% *} unproved=${last#* }
+    [ "$status" -ne 0 ] || [ "$unproved" -eq 0 ] || status=1
+    [ "$status" -eq 0 ] || [ "$unproved" -ne 0 ] || unproved=1
+    echo "gate: rt ci took $((SECONDS - start)) s"
+}
+
+# Takes the program that Rattle's own compiler built, which is also what `./s10` builds, and otherwise the one of LLVM. The gate
+# runs the tests of the crates as LLVM builds them.
+take_program() {
+    local built
+    for built in "$@"; do
+        if [ -x "$built" ]; then
+            cp "$built" "$s10" && chmod 755 "$s10"
+            return
+        fi
+    done
+}
+
+main() {
+    local status=0 proved=0 unproved=0 start
+    local out=$top/crates/s10/out
+    if [ "${1:-}" = --checks ]; then
+        take_program "${2:-$out/s10.by-rattle}" "${2:-$out/s10}"
+        chosen=("${@:3}")
+    else
+        prove
+        [ "$status" -ne 0 ] || take_program "$out/s10.by-rattle" "$out/s10"
+    fi
+    start=$SECONDS
+    run_checks
+    echo "gate: the checks took $((SECONDS - start)) s: $passed passed, $failed failed, $skipped skipped"
+    echo "$((proved + passed)) passed, $((unproved + failed)) failed"
+    [ "$failed" -eq 0 ] || [ "$status" -ne 0 ] || status=1
+    return "$status"
+}
+
+main "$@"
