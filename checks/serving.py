@@ -10,7 +10,7 @@ from pathlib import Path
 HERE = Path(__file__).resolve().parent
 PROGRAM = str(Path(sys.argv[1] if len(sys.argv) > 1 else HERE / "../crates/s10/out/s10").resolve())
 # How many seconds a client waits for a reply.
-PATIENCE = 10
+PATIENCE = 60
 
 
 class Failed(Exception):

@@ -36,7 +36,7 @@ serve() { # NUMBER
     "$s10" create --ledger "$ledger" --interval 365 --limit 1000000 >/dev/null || fail create
     "$s10" serve --ledger "$ledger" --bind 127.0.0.1:0 --count 4294967295 >/dev/null 2>"$told" &
     pids+=($!)
-    for _ in $(seq 100); do
+    for _ in $(seq 600); do
         address=$(sed -n 's/^serving on //p' "$told")
         [ -z "$address" ] || break
         sleep 0.1
