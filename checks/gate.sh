@@ -30,6 +30,10 @@ end() {
     rm -rf --one-file-system "$room"
 }
 
+is_new_python() {
+    python3 -c 'import sys; sys.exit(sys.version_info < (3, 10))' 2>/dev/null
+}
+
 # Prints the first of these tools that the machine lacks. `python3` must not be older than the scripts. `program` and `library`
 # are what was built.
 lacking() { # TOOL..
@@ -37,10 +41,10 @@ lacking() { # TOOL..
     for tool in "$@"; do
         case $tool in
             root) [ "$(id -u)" = 0 ] || { echo root; return; } ;;
-            program) [ -x "$s10" ] || { echo 'the program'; return; } ;;
-            library) [ -e "$library" ] || { echo 'the C library'; return; } ;;
+            program) [ -x "$s10" ] || { echo program; return; } ;;
+            library) [ -e "$library" ] || { echo 'C library'; return; } ;;
             git) git -C "$top" rev-parse -q --verify HEAD >/dev/null 2>&1 || { echo 'git with this repository'; return; } ;;
-            python3) python3 -c 'import sys; sys.exit(sys.version_info < (3, 10))' 2>/dev/null || { echo 'python3 from 3.10 on'; return; } ;;
+            python3) is_new_python || { echo 'python3 from 3.10 on'; return; } ;;
             *) command -v "$tool" >/dev/null || { echo "$tool"; return; } ;;
         esac
     done
@@ -150,6 +154,7 @@ main() {
     local status=0 proved=0 unproved=0 start
     local out=$top/crates/s10/out
     if [ "${1:-}" = --checks ]; then
+        [ $# -lt 2 ] || [ -x "$2" ] || { echo "gate: $2 is no program" >&2; return 2; }
         take_program "${2:-$out/s10.by-rattle}" "${2:-$out/s10}"
         chosen=("${@:3}")
     else
