@@ -16,7 +16,7 @@ use Rattle.sqlite_trees.specs.Tree.{Trees}
 use Rattle.sqlite_store.specs.declared.store.FileStore.{FileStore}
 use Rattle.sqlite_store.specs.FileStore.{view, faults, recovers, is_shielded}
 use Rattle.sqlite_store.specs.FileStore.{files as store_files}
-use Rattle.sqlite_trees.specs.View.{IsQuiet, IsUndone}
+use Rattle.sqlite_trees.specs.View.{IsQuiet, IsRolledBack}
 use Rattle.sqlite.specs.Effect.{Database}
 use Rattle.sqlite.specs.Held.{Held}
 use Rattle.sqlite.specs.Files.{file_state, over_files, HoldsDatabase, AreFoundIn, IsBlankAs}
@@ -99,7 +99,7 @@ module _ {D : Type 0} {g : Ghosts D} where
   pub record AreFilesOf (c : Held (FileStore D g)) (files : Files D) : Type 0 where
     pub store : FileStore D g
     pub same : (files.log, files.db) ≡ store_files store
-    pub undone : IsUndone (view c.store) (view store)
+    pub undone : IsRolledBack (view c.store) (view store)
     pub quiet : IsQuiet view faults recovers is_shielded c.store store
 
   -- The database that a connection showed is refused for this reason, and the files hold it, also
