@@ -1,5 +1,5 @@
 -- Lemmas about lines that are read one byte at a time.
-use Rattle.std.proofs.Common.{◌≡◌, ◌≢◌, ℕ, ◌+◌, ◌<◌, ◌≤◌, List, [], ◌∷◌, ◌++◌, length, take, refl}
+use Rattle.std.proofs.Common.{◌≡◌, ◌≢◌, ℕ, zero, suc, ◌+◌, ◌-◌, ◌<◌, ◌≤◌, List, [], ◌∷◌, ◌++◌, length, take, refl}
 use Rattle.std.proofs.Common.{ap, sym, ◌∙◌, arith, Option, Some, None, append_assoc, Bool, true}
 use Rattle.std.proofs.Common.{false}
 use Rattle.std.specs.Prelude.{◌==◌}
@@ -9,8 +9,7 @@ use Rattle.std.proofs.lemmas.Bool.{false_from_ne_true, eqb-true, eqb-false}
 use Rattle.std.proofs.lemmas.List.{append-nil}
 use Rattle.std.proofs.lemmas.Grind.{common_steps}
 use Rattle.s10_jobs.specs.InputLines.{pieces, last_piece, lines_of}
-use Rattle.s10_jobs.specs.LineReader.{ReadsByte, ReadsLine}
-use Rattle.s10_jobs.specs.declared.line_reader.TheConstants.{MAX_LINE}
+use Rattle.s10_jobs.specs.LineReader.{ReadsByte, ReadsLine, ReadsNoFurther, after_line}
 use Rattle.s10_jobs.specs.declared.line_reader.NextLine.TheVariants.{End, Whole, Long}
 
 -- The bytes contain no line feed.
@@ -124,7 +123,7 @@ line_at_break (Some a) (Some b) (Some c) content buffer n h free k e =
 -- A line that is longer than the limit.
 pub line_too_long : (a b c : Option (List ℕ)) (content buffer : List ℕ) (x : ℕ)
     → Consumes a b content → IsUnbroken content → ReadsByte b c (Some x) → x ≢ 10
-    → length content ≡ MAX_LINE → ReadsLine a c buffer Long
+    → 1036 ≤ length content → ReadsLine a c buffer Long
 line_too_long None b c content buffer x h free k ne e = tt
 line_too_long (Some a) None c content buffer x h free k ne e = absurd h
 line_too_long (Some a) (Some b) None content buffer x h free k ne e = absurd k
@@ -137,6 +136,78 @@ line_too_long (Some a) (Some b) (Some c) content buffer x h free k ne e =
           ∙ pieces_step content c x ne ∙ rest.2,
       omega (arith, rest.3),
     )
+
+-- The bytes after a line, by the bytes that it begins with.
+pub after_step : (most b : ℕ) (bytes : List ℕ) → b ≢ 10 → after_line (suc most) (b ∷ bytes)
+    ≡ after_line most bytes
+unfolding after_line
+after_step most b bytes h = rw (is_no_break b h) refl
+
+pub after_break : (most : ℕ) (rest : List ℕ) → 0 < most → after_line most (10 ∷ rest) ≡ rest
+unfolding after_line
+after_break zero rest h = let bad : ⊥ = omega arith in absurd bad
+after_break (suc most) rest h = refl
+
+pub after_none : (most : ℕ) → after_line most [] ≡ []
+unfolding after_line
+after_none most = refl
+
+pub after_zero : (bytes : List ℕ) → after_line 0 bytes ≡ bytes
+unfolding after_line
+after_zero [] = refl
+after_zero (b ∷ bytes) = refl
+
+pub after_walk : (content rest : List ℕ) (most less : ℕ) → IsUnbroken content
+    → most ≡ length content + less → after_line most (content ++ rest) ≡ after_line less rest
+after_walk [] rest most less h is =
+    let same : most ≡ less = grind (arith, common_steps, is) in ap (λ n. after_line n rest) same
+after_walk (b ∷ content) rest zero less h is =
+    let bad : ⊥ = grind (arith, common_steps, is) in absurd bad
+after_walk (b ∷ content) rest (suc most) less h is =
+    let shorter : most ≡ length content + less = grind (arith, common_steps, is) in
+    after_step most b (content ++ rest) h.0
+    ∙ after_walk content rest most less h.1 shorter
+
+after_byte_at : (b : ℕ) (bytes : List ℕ) (t : Bool) → (b == 10) ≡ t → after_line 1 (b ∷ bytes)
+    ≡ bytes
+after_byte_at b bytes true e =
+    let ten : b ≡ 10 = eqb-true b 10 e in
+    ap (λ c. after_line 1 (c ∷ bytes)) ten ∙ after_break 1 bytes (omega arith)
+after_byte_at b bytes false e = after_step 0 b bytes (eqb-false b 10 e) ∙ after_zero bytes
+
+pub after_byte : (b : ℕ) (bytes : List ℕ) → after_line 1 (b ∷ bytes) ≡ bytes
+after_byte b bytes = after_byte_at b bytes (b == 10) refl
+
+-- What is left after a line that ends at a line feed, at the end of the input, or not in time.
+pub no_further_break : (a b c : Option (List ℕ)) (content : List ℕ) → Consumes a b content
+    → IsUnbroken content → ReadsByte b c (Some 10) → length content < 1037 → ReadsNoFurther a c
+no_further_break None b c content h free k few = tt
+no_further_break (Some a) None c content h free k few = absurd h
+no_further_break (Some a) (Some b) None content h free k few = absurd k
+no_further_break (Some a) (Some b) (Some c) content h free k few =
+    let less = 1037 - length content in
+    let some : 0 < less = omega arith in
+    sym (ap (after_line 1037) (h ∙ ap (λ l. content ++ l) k)
+    ∙ after_walk content (10 ∷ c) 1037 less free (omega arith) ∙ after_break less c some)
+
+pub no_further_end : (a b c : Option (List ℕ)) (content : List ℕ) → Consumes a b content
+    → IsUnbroken content → ReadsByte b c None → length content ≤ 1037 → ReadsNoFurther a c
+no_further_end None b c content h free k few = tt
+no_further_end (Some a) None c content h free k few = absurd h
+no_further_end (Some a) (Some b) None content h free k few = absurd k.1
+no_further_end (Some a) (Some b) (Some c) content h free k few =
+    let less = 1037 - length content in
+    sym k.1 ∙ k.0 ∙ sym (ap (after_line 1037) (h ∙ ap (λ l. content ++ l) k.0)
+    ∙ after_walk content [] 1037 less free (omega arith) ∙ after_none less)
+
+pub no_further_long : (a b c : Option (List ℕ)) (content : List ℕ) (x : ℕ) → Consumes a b content
+    → IsUnbroken content → ReadsByte b c (Some x) → length content ≡ 1036 → ReadsNoFurther a c
+no_further_long None b c content x h free k full = tt
+no_further_long (Some a) None c content x h free k full = absurd h
+no_further_long (Some a) (Some b) None content x h free k full = absurd k
+no_further_long (Some a) (Some b) (Some c) content x h free k full =
+    sym (ap (after_line 1037) (h ∙ ap (λ l. content ++ l) k)
+    ∙ after_walk content (x ∷ c) 1037 1 free (omega (arith, full)) ∙ after_byte x c)
 
 -- Some bytes have a first line, and no bytes have none.
 pub no_pieces : lines_of [] ≡ []

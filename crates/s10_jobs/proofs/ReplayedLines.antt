@@ -3,8 +3,8 @@ use Rattle.std.proofs.Common.{◌≡◌, ◌≢◌, ℕ, zero, suc, ◌+◌, ◌
 use Rattle.std.proofs.Common.{length, take, drop, Option, Some, None, Result, Ok, Err, refl, sym}
 use Rattle.std.proofs.Common.{ap, subst, ◌∙◌, inl, inr, append_assoc, append-nil, arith, Bool, true}
 use Rattle.std.proofs.Common.{false}
-use Rattle.std.proofs.lemmas.Bool.{eqb-true}
-use Rattle.std.specs.Prelude.{⊤, ◌==◌, IfSome, slice_get}
+use Rattle.std.proofs.lemmas.Bool.{eqb-true, le-leb}
+use Rattle.std.specs.Prelude.{⊤, ◌==◌, if◌then◌else◌, IfSome, slice_get}
 use Rattle.std.specs.List.{cons_option}
 use Rattle.std.specs.Io.KnownBytes.{Appends, Consumes, Keeps}
 use Rattle.std.proofs.Math.Seq.{take-append_seam, drop-append_seam}
@@ -19,15 +19,13 @@ use Rattle.s10_ends.specs.Served.{Dated, Served}
 use Rattle.s10_ends.proofs.Whole.{Served-push, Served-nil}
 use Rattle.s10_jobs.specs.InputLines.{lines_of, without_return, delivery_in, deliveries_in}
 use Rattle.s10_jobs.specs.InputLines.{IsRefused, NoneRefused}
-use Rattle.s10_jobs.specs.LineReader.{ReadsByte, ReadsLine, BeginsLine}
+use Rattle.s10_jobs.specs.LineReader.{ReadsByte, ReadsLine, ReadsNoFurther, BeginsLine, after_line}
 use Rattle.s10_jobs.specs.AnswerLines.{answer_line}
-use Rattle.s10_jobs.specs.Replay.{Shows, Ends, Replayed}
-use Rattle.s10_jobs.specs.declared.line_reader.TheConstants.{MAX_LINE}
-use Rattle.s10_jobs.specs.declared.replaying.TheConstants.{MAX_LINES}
+use Rattle.s10_jobs.specs.Replay.{Shows, Ends, Replayed, most_of}
 use Rattle.s10_jobs.specs.declared.line_reader.NextLine.TheVariants.{End, Whole, Long}
 use Rattle.s10_jobs.specs.declared.replay_fault.ReplayFault.{ReplayFault}
 use Rattle.s10_jobs.specs.declared.replay_fault.ReplayFault.TheVariants.{Line, Read, Write}
-use Rattle.s10_jobs.proofs.LineReading.{pieces_some, no_pieces}
+use Rattle.s10_jobs.proofs.LineReading.{pieces_some, no_pieces, after_byte}
 
 -- A property of each element and its index holds with one more element.
 each_push : (P : List ℕ → ℕ → Type 0) (xs : List (List ℕ)) (x : List ℕ)
@@ -44,7 +42,7 @@ NoneRefused-push : (lines : List (List ℕ)) (line : List ℕ) → NoneRefused l
 NoneRefused-push lines line none here = each_push (λ l n. ¬ IsRefused l (n + 1)) lines line none
     here
 
-is_delivery : (line : List ℕ) (n : ℕ) (d : Dated) → length line ≤ MAX_LINE → n ≤ MAX_LINES
+is_delivery : (line : List ℕ) (n : ℕ) (d : Dated) → length line ≤ 1036 → n ≤ 1000000
     → delivery_in line ≡ Some d → ¬ IsRefused line n
 is_delivery line n d short few is refused =
     elim refused [
@@ -55,7 +53,7 @@ is_delivery line n d short few is refused =
       ]
     ]
 
-is_empty : (line : List ℕ) (n : ℕ) → length line ≤ MAX_LINE → n ≤ MAX_LINES → without_return line
+is_empty : (line : List ℕ) (n : ℕ) → length line ≤ 1036 → n ≤ 1000000 → without_return line
     ≡ [] → ¬ IsRefused line n
 is_empty line n short few is refused =
     elim refused [
@@ -117,7 +115,7 @@ lines_more bytes left rest line before so_far next = so_far ∙ ap (λ l. before
 pub Front-answer : (h h1 h2 : List Entry) (t : Terms) (bytes left rest held now after line taken :
     List ℕ) (done count : ℕ) (d : Dated) (a : Answer)
     → Front h t bytes left held now done count h1 → left ≡ taken ++ rest
-    → lines_of left ≡ line ∷ lines_of rest → length line ≤ MAX_LINE → done < MAX_LINES
+    → lines_of left ≡ line ∷ lines_of rest → length line ≤ 1036 → done < 1000000
     → delivery_in line ≡ Some d
     → Served h1 t (d ∷ []) (a ∷ []) h2 → after ≡ now ++ answer_line a
     → Front h t bytes rest held after (done + 1) (count + 1) h2
@@ -146,7 +144,7 @@ Front-answer h h1 h2 t bytes left rest held now after line taken done count d a 
 pub Front-empty : (h h1 : List Entry) (t : Terms) (bytes left rest held now line taken : List ℕ)
     (done count : ℕ)
     → Front h t bytes left held now done count h1 → left ≡ taken ++ rest
-    → lines_of left ≡ line ∷ lines_of rest → length line ≤ MAX_LINE → done < MAX_LINES
+    → lines_of left ≡ line ∷ lines_of rest → length line ≤ 1036 → done < 1000000
     → delivery_in line ≡ None
     → without_return line ≡ [] → Front h t bytes rest held now (done + 1) count h1
 Front-empty h h1 t bytes left rest held now line taken done count front read next short few is
@@ -203,8 +201,9 @@ front_taken h h' t bytes left held now done count front =
 pub Front-refused : (h h' : List Entry) (t : Terms) (bytes left held now line : List ℕ)
     (new : Option (List ℕ)) (more : List (List ℕ)) (done count : ℕ)
     → Front h t bytes left held now done count h' → lines_of left ≡ line ∷ more
-    → IsRefused line (done + 1) → Ends h t bytes new held now (Err (Line (done + 1))) h'
-Front-refused h h' t bytes left held now line new more done count front next refused =
+    → IsRefused line (done + 1) → new ≡ Some (after_line (most_of (done + 1)) left)
+    → Ends h t bytes new held now (Err (Line (done + 1))) h'
+Front-refused h h' t bytes left held now line new more done count front next refused stopped =
     let same : done + 1 - 1 ≡ done = omega arith in
     let taken : take (done + 1 - 1) (lines_of bytes) ≡ front.before =
     ap (λ n. take n (lines_of bytes)) same ∙ front_taken h h' t bytes left held now done count
@@ -222,12 +221,20 @@ Front-refused h h' t bytes left held now line new more done count front next ref
         none_before = subst NoneRefused (sym taken) front.none_refused;
       },
       subst P (sym taken) front.shows,
+      record {
+        read = front.read;
+        rest = left;
+        parts = front.parts;
+        unread_lines = front_left h h' t bytes left held now done count front
+            ∙ ap (λ n. drop n (lines_of bytes)) (sym same);
+        stopped = stopped;
+      },
     )
 
 -- The input cannot be read further.
 pub Front-stopped : (h h' : List Entry) (t : Terms) (bytes left held now : List ℕ)
     (new : Option (List ℕ)) (done count : ℕ) → Front h t bytes left held now done count h'
-    → BeginsLine (Some left) new → (MAX_LINES ≤ done → new ≡ Some left)
+    → BeginsLine (Some left) new → (1000000 ≤ done → new ≡ Some left)
     → Ends h t bytes new held now (Err Read) h'
 Front-stopped h h' t bytes left held now new done count front stopped counted =
     let P : List (List ℕ) → Type 0 = λ l. Shows h t l held now h' in
@@ -269,7 +276,7 @@ at_start h t (Some bytes) (Some held) = Front-start h t bytes held
 pub one_more : (h h1 h2 : List Entry) (t : Terms) (bytes left rest held now after : Option (List ℕ))
     (buffer : List ℕ) (n done count : ℕ) (d : Dated) (a : Answer)
     → HasReplayed h t bytes left held now done count h1 → ReadsLine left rest buffer (Whole n)
-    → Takes left rest → n ≤ MAX_LINE → done < MAX_LINES → delivery_in (take n buffer) ≡ Some d
+    → Takes left rest → n ≤ 1036 → done < 1000000 → delivery_in (take n buffer) ≡ Some d
     → Served h1 t (d ∷ []) (a ∷ []) h2 → Appends now after (answer_line a)
     → HasReplayed h t bytes rest held after (done + 1) (count + 1) h2
 one_more h h1 h2 t None left rest held now after buffer n done count d a front line read short few
@@ -286,7 +293,7 @@ one_more h h1 h2 t (Some bytes) (Some left) (Some rest) (Some held) (Some now) N
     count d a front line read short few is served out = absurd out
 one_more h h1 h2 t (Some bytes) (Some left) (Some rest) (Some held) (Some now) (Some after) buffer n
     done count d a front line read short few is served out =
-    let fits : length (take n buffer) ≤ MAX_LINE = grind (arith, common_steps) in
+    let fits : length (take n buffer) ≤ 1036 = grind (arith, common_steps) in
     Front-answer h h1 h2 t bytes left rest held now after (take n buffer) read.0 done count d a
     front read.1 line fits few is served out
 
@@ -294,7 +301,7 @@ one_more h h1 h2 t (Some bytes) (Some left) (Some rest) (Some held) (Some now) (
 pub one_empty : (h h1 : List Entry) (t : Terms) (bytes left rest held now : Option (List ℕ))
     (buffer : List ℕ) (n done count : ℕ)
     → HasReplayed h t bytes left held now done count h1 → ReadsLine left rest buffer (Whole n)
-    → Takes left rest → n ≤ MAX_LINE → done < MAX_LINES → delivery_in (take n buffer) ≡ None
+    → Takes left rest → n ≤ 1036 → done < 1000000 → delivery_in (take n buffer) ≡ None
     → without_return (take n buffer) ≡ [] → HasReplayed h t bytes rest held now (done + 1) count h1
 one_empty h h1 t None left rest held now buffer n done count front line read short few is empty = tt
 one_empty h h1 t (Some bytes) left rest None now buffer n done count front line read short few is
@@ -307,7 +314,7 @@ one_empty h h1 t (Some bytes) (Some left) (Some rest) (Some held) None buffer n 
     line read short few is empty = absurd front
 one_empty h h1 t (Some bytes) (Some left) (Some rest) (Some held) (Some now) buffer n done count
     front line read short few is empty =
-    let fits : length (take n buffer) ≤ MAX_LINE = grind (arith, common_steps) in
+    let fits : length (take n buffer) ≤ 1036 = grind (arith, common_steps) in
     Front-empty h h1 t bytes left rest held now (take n buffer) read.0 done count front read.1 line
     fits few is empty
 
@@ -348,11 +355,23 @@ whole_line (Some x) (Some r) buffer l n is read = (
 )
 
 long_line : (left rest : Option (List ℕ)) (buffer l : List ℕ) → left ≡ Some l
-    → ReadsLine left rest buffer Long → (line : List ℕ) × LineOf l line × (MAX_LINE < length line)
+    → ReadsLine left rest buffer Long → (line : List ℕ) × LineOf l line × (1036 < length line)
 long_line None rest buffer l is read = absurd (none-some l is)
 long_line (Some x) None buffer l is read = absurd read
 long_line (Some x) (Some r) buffer l is read =
     (read.0, (read.1, ap lines_of (sym (same_Some x l is)) ∙ read.2), read.3)
+
+-- Of a line that is no more than the last one allowed, 1,037 bytes are read.
+most_few : (number : ℕ) → number ≤ 1000000 → most_of number ≡ 1037
+most_few number few = ap (λ (b : Bool). if b then 1037 else 1) (le-leb number 1000000 few)
+
+no_further : (left rest : Option (List ℕ)) (l : List ℕ) (number : ℕ) → left ≡ Some l
+    → ReadsNoFurther left rest → number ≤ 1000000 → rest ≡ Some (after_line (most_of number) l)
+no_further None rest l number is read few = absurd (none-some l is)
+no_further (Some x) None l number is read few = absurd read
+no_further (Some x) (Some r) l number is read few =
+    ap Some (read ∙ ap (after_line 1037) (same_Some x l is)
+    ∙ ap (λ n. after_line n l) (sym (most_few number few)))
 
 pub ends_at_end : (h h' : List Entry) (t : Terms) (bytes left rest held now : Option (List ℕ))
     (buffer : List ℕ) (done count : ℕ) → HasReplayed h t bytes left held now done count h'
@@ -365,27 +384,28 @@ ends_at_end h h' t bytes left rest held now buffer done count front read =
 
 pub ends_too_long : (h h' : List Entry) (t : Terms) (bytes left rest held now : Option (List ℕ))
     (buffer : List ℕ) (done count : ℕ) → HasReplayed h t bytes left held now done count h'
-    → ReadsLine left rest buffer Long
+    → ReadsLine left rest buffer Long → ReadsNoFurther left rest → done < 1000000
     → EndsSo h t bytes rest held now (Err (Line (done + 1))) h'
-ends_too_long h h' t bytes left rest held now buffer done count front read =
+ends_too_long h h' t bytes left rest held now buffer done count front read stopped few =
     ends h h' t bytes left rest held now done count (Err (Line (done + 1))) front
     (λ b l w n is at. let long = long_line left rest buffer l is read in
-    Front-refused h h' t b l w n long.0 rest long.1.0 done count at long.1.1 (inl long.2))
+    Front-refused h h' t b l w n long.0 rest long.1.0 done count at long.1.1 (inl long.2)
+    (no_further left rest l (done + 1) is stopped (omega arith)))
 
 pub ends_refused : (h h' : List Entry) (t : Terms) (bytes left rest held now : Option (List ℕ))
     (buffer : List ℕ) (n done count : ℕ) → HasReplayed h t bytes left held now done count h'
-    → ReadsLine left rest buffer (Whole n)
+    → ReadsLine left rest buffer (Whole n) → ReadsNoFurther left rest → done < 1000000
     → delivery_in (take n buffer) ≡ None → without_return (take n buffer) ≢ []
     → EndsSo h t bytes rest held now (Err (Line (done + 1))) h'
-ends_refused h h' t bytes left rest held now buffer k done count front read is full =
+ends_refused h h' t bytes left rest held now buffer k done count front read stopped few is full =
     ends h h' t bytes left rest held now done count (Err (Line (done + 1))) front
     (λ b l w n same at. let line = whole_line left rest buffer l k same read in
     Front-refused h h' t b l w n (take k buffer) rest line.0 done count at line.1
-    (inr (inr (full, is))))
+    (inr (inr (full, is))) (no_further left rest l (done + 1) same stopped (omega arith)))
 
 pub ends_stopped : (h h' : List Entry) (t : Terms) (bytes left rest held now : Option (List ℕ))
     (done count : ℕ) → HasReplayed h t bytes left held now done count h' → BeginsLine left rest
-    → done < MAX_LINES
+    → done < 1000000
     → EndsSo h t bytes rest held now (Err Read) h'
 ends_stopped h h' t bytes left rest held now done count front stopped few =
     ends h h' t bytes left rest held now done count (Err Read) front
@@ -439,15 +459,24 @@ ends_unread h h' t bytes left rest held now done count front read =
 
 pub ends_one_too_many : (h h' : List Entry) (t : Terms) (bytes left rest held now : Option (List ℕ))
     (byte done count : ℕ) → HasReplayed h t bytes left held now done count h'
-    → ReadsByte left rest (Some byte) → done ≡ MAX_LINES
+    → ReadsByte left rest (Some byte) → done ≡ 1000000
     → EndsSo h t bytes rest held now (Err (Line 1000001)) h'
 ends_one_too_many h h' t bytes left rest held now byte done count front read many =
     let P : ℕ → Type 0 = λ k. EndsSo h t bytes rest held now (Err (Line (k + 1))) h' in
     subst P many (ends h h' t bytes left rest held now done count (Err (Line (done + 1))) front
     (λ b l w n is at. let line = some_line left rest l is read in
     Front-refused h h' t b l w n line.0 rest line.1 done count at line.2
-    (inr (inl (omega arith)))))
+    (inr (inl (omega arith))) (after_first left rest l is read)))
   where
+    after_first : (x y : Option (List ℕ)) (l : List ℕ) → x ≡ Some l → ReadsByte x y (Some byte)
+        → y ≡ Some (after_line (most_of (done + 1)) l)
+    after_first None y l is read' = absurd (none-some l is)
+    after_first (Some x) None l is read' = absurd read'
+    after_first (Some x) (Some r) l is read' =
+        let one : most_of (done + 1) ≡ 1 = ap (λ k. most_of (k + 1)) many in
+        ap Some (sym (ap (λ n. after_line n l) one ∙ ap (after_line 1) (sym (same_Some x l is)
+        ∙ read') ∙ after_byte byte r))
+
     some_line : (x y : Option (List ℕ)) (l : List ℕ) → x ≡ Some l → ReadsByte x y (Some byte)
         → (line : List ℕ) × (more : List (List ℕ)) × (lines_of l ≡ line ∷ more)
     some_line None y l is read' = absurd (none-some l is)

@@ -8,8 +8,6 @@ use Rattle.std.specs.Result.{result_ok}
 use Rattle.hex.specs.Hex.{decode_of}
 use Rattle.s10_core.specs.Serial.{number_of}
 use Rattle.s10_ends.specs.Served.{Dated}
-use Rattle.s10_jobs.specs.declared.line_reader.TheConstants.{MAX_LINE}
-use Rattle.s10_jobs.specs.declared.replaying.TheConstants.{MAX_LINES}
 
 -- The last piece counts if it is not empty.
 abbrev pub last_piece : List ℕ → List (List ℕ)
@@ -60,11 +58,11 @@ delivery_in line = let text = without_return line in parted_at (position (λ b. 
 abbrev pub deliveries_in : List (List ℕ) → List Dated
 deliveries_in lines = filter_map delivery_in lines
 
--- The line with that number, from 1, is refused: it is too long, past the last one allowed, or
--- neither empty nor a delivery.
+-- The line with that number, from 1, is refused: it has more than 1,036 bytes, is past line
+-- 1,000,000, or is neither empty nor a delivery.
 abbrev pub IsRefused : List ℕ → ℕ → Type 0
-IsRefused line number = (MAX_LINE < length line)
-    ⊎ ((MAX_LINES < number) ⊎ ((without_return line ≢ []) × (delivery_in line ≡ None)))
+IsRefused line number = (1036 < length line)
+    ⊎ ((1000000 < number) ⊎ ((without_return line ≢ []) × (delivery_in line ≡ None)))
 
 -- None of the lines is refused.
 abbrev pub NoneRefused : List (List ℕ) → Type 0

@@ -1,6 +1,6 @@
 -- What a replay writes, and how it ends.
 use Rattle.std.specs.Prelude.{◌≡◌, ℕ, ◌-◌, ◌≤◌, List, [], ◌++◌, length, take, drop, Option, Some}
-use Rattle.std.specs.Prelude.{None, Result, Ok, Err, IfOk, ⊤}
+use Rattle.std.specs.Prelude.{None, Result, Ok, Err, IfOk, ⊤, if◌then◌else◌, nat_le}
 use Rattle.std.specs.Io.KnownBytes.{Appends}
 use Rattle.s10_history.specs.declared.entry.Entry.{Entry}
 use Rattle.s10_history.specs.Settings.{Terms}
@@ -8,7 +8,7 @@ use Rattle.s10_lines.specs.declared.write_fault.WriteFault.{WriteFault}
 use Rattle.s10_ends.specs.declared.answer.Answer.{Answer}
 use Rattle.s10_ends.specs.Served.{Served}
 use Rattle.s10_jobs.specs.InputLines.{lines_of, deliveries_in, NoneRefused, IsFirstRefused}
-use Rattle.s10_jobs.specs.LineReader.{BeginsLine}
+use Rattle.s10_jobs.specs.LineReader.{after_line, BeginsLine}
 use Rattle.s10_jobs.specs.AnswerLines.{shown}
 use Rattle.s10_jobs.specs.declared.replay_fault.ReplayFault.{ReplayFault}
 use Rattle.s10_jobs.specs.declared.replay_fault.ReplayFault.TheVariants.{Line, Read, Write}
@@ -35,6 +35,20 @@ pub record StopsInLine (bytes : List ℕ) (left : Option (List ℕ)) (done : ℕ
   pub stopped : BeginsLine (Some rest) left
   pub counted : 1000000 ≤ done → left ≡ Some rest
 
+-- The most bytes that are read of the line with this number, its line feed included: 1,037, but of
+-- line 1,000,001 only the first.
+abbrev pub most_of : ℕ → ℕ
+most_of number = if nat_le number 1000000 then 1037 else 1
+
+-- The line with this number was refused, and nothing was read beyond it: neither after its line feed
+-- nor more bytes than are read of a line.
+pub record StopsAfterLine (bytes : List ℕ) (left : Option (List ℕ)) (number : ℕ) : Type 0 where
+  pub read : List ℕ
+  pub rest : List ℕ
+  pub parts : bytes ≡ read ++ rest
+  pub unread_lines : lines_of rest ≡ drop (number - 1) (lines_of bytes)
+  pub stopped : left ≡ Some (after_line (most_of number) rest)
+
 -- How a replay of an input's bytes ends, by its result. `left` is what remains of the input.
 abbrev pub Ends : List Entry → Terms → List ℕ → Option (List ℕ) → List ℕ → List ℕ
     → Result ℕ ReplayFault → List Entry → Type 0
@@ -43,7 +57,7 @@ Ends h t bytes left held now (Ok count) h' =
     × (count ≡ length shows.answers) × (left ≡ Some [])
 Ends h t bytes left held now (Err (Line number)) h' =
     IsFirstRefused (lines_of bytes) number × Shows h t (take (number - 1) (lines_of bytes)) held now
-    h'
+    h' × StopsAfterLine bytes left number
 Ends h t bytes left held now (Err Read) h' = (done : ℕ) × Shows h t (take done (lines_of bytes))
     held now h' × StopsInLine bytes left done
 Ends h t bytes left held now (Err Write) h' = ⊤

@@ -1,7 +1,7 @@
 //! Reads the lines of an input, a byte at a time, into a fixed buffer.
 ghost use Rattle.std.specs.Prelude.{ℕ, List, IfOk, OnErr};
 ghost use Rattle.std.specs.Io.KnownBytes.{Keeps, Consumes};
-ghost use Rattle.s10_jobs.specs.LineReader.{ReadsByte, ReadsLine, FitsIn, BeginsLine};
+ghost use Rattle.s10_jobs.specs.LineReader.{ReadsByte, ReadsLine, FitsIn, ReadsNoFurther, BeginsLine};
 
 use std::io;
 use std::io::{ErrorKind, Read};
@@ -68,6 +68,8 @@ pub fn read_line<R: Read>(input: &mut R, buffer: &mut [u8; MAX_LINE]) -> io::Res
     ensures fits { IfOk result FitsIn }
     ensures line { IfOk result (ReadsLine (R.remaining input.old) (R.remaining input.new)
         buffer.new) }
+    ensures left { IfOk result (λ _. ReadsNoFurther (R.remaining input.old)
+        (R.remaining input.new)) }
     ensures taken { (bytes : List ℕ) × Consumes (R.remaining input.old) (R.remaining input.new)
         bytes }
     ensures stopped { OnErr result (BeginsLine (R.remaining input.old) (R.remaining input.new)) }

@@ -6,7 +6,8 @@ use Rattle.std.proofs.lemmas.Grind.{common_steps}
 use Rattle.std.proofs.lemmas.Result.{err_from_is_err_and}
 use Rattle.s10_jobs.specs.LineReader.{ReadsByte}
 use Rattle.s10_jobs.proofs.LineReading.{Consumes-append, Consumes-kept, line_at_end, nothing_at_end}
-use Rattle.s10_jobs.proofs.LineReading.{line_at_break, line_too_long}
+use Rattle.s10_jobs.proofs.LineReading.{line_at_break, line_too_long, no_further_break}
+use Rattle.s10_jobs.proofs.LineReading.{no_further_end, no_further_long}
 use Rattle.s10_jobs.specs.declared.line_reader.TheConstants.{MAX_LINE}
 use Rattle.s10_jobs.proofs.line_reader.read_line.Goals as goal
 
@@ -50,8 +51,7 @@ returns-in-Some-2-clause-line g c =
     let byte : ReadsByte (g.R.Read.remaining c.loop-at.input)
     (g.R.Read.remaining c.next_byte-2.new.input) (Some c.in-Some-2._byte) =
     rw c.in-Some-2.is at c.in_ok-next_byte-2.ensures.read in
-    let full : length (take c.loop-at.at c.loop-at.buffer) ≡ MAX_LINE =
-    grind (arith, common_steps) in
+    let full : 1036 ≤ length (take c.loop-at.at c.loop-at.buffer) = grind (arith, common_steps) in
     line_too_long _ _ _ _ _ _ c.loop-at.invariant.read
     (recursion_from_All _ _ c.loop-at.invariant.unbroken) byte c.in-Some-2._byte-test.1 full
 
@@ -74,6 +74,55 @@ returns-in-Some-eq10-2-clause-line g c =
     line_at_break _ _ _ _ _ _ c.loop-at.invariant.read
     (recursion_from_All _ _ c.loop-at.invariant.unbroken) ten
     (ap (λ n. take n c.loop-at.buffer) at)
+
+pub returns-then-at-eq0-clause-left : goal.returns-then-at-eq0-clause-left
+returns-then-at-eq0-clause-left g c =
+    let short : length (take c.loop-at.at c.loop-at.buffer) ≤ 1037 = grind (arith, common_steps) in
+    no_further_end _ _ _ _ c.loop-at.invariant.read
+    (recursion_from_All _ _ c.loop-at.invariant.unbroken)
+    (rw c.in-None.is at c.in_ok-next_byte.ensures.read) short
+
+pub returns-else-at-eq0-clause-left : goal.returns-else-at-eq0-clause-left
+returns-else-at-eq0-clause-left g c =
+    let short : length (take c.loop-at.at c.loop-at.buffer) ≤ 1037 = grind (arith, common_steps) in
+    no_further_end _ _ _ _ c.loop-at.invariant.read
+    (recursion_from_All _ _ c.loop-at.invariant.unbroken)
+    (rw c.in-None.is at c.in_ok-next_byte.ensures.read) short
+
+pub returns-in-Some-eq10-clause-left : goal.returns-in-Some-eq10-clause-left
+returns-in-Some-eq10-clause-left g c =
+    let ten : ReadsByte (g.R.Read.remaining c.loop-at.input)
+    (g.R.Read.remaining c.next_byte.new.input) (Some 10) =
+    rw (c.in-Some-eq10.is, c.in-Some-eq10.field-0-test) at c.in_ok-next_byte.ensures.read in
+    let short : length (take c.loop-at.at c.loop-at.buffer) < 1037 = grind (arith, common_steps) in
+    no_further_break _ _ _ _ c.loop-at.invariant.read
+    (recursion_from_All _ _ c.loop-at.invariant.unbroken) ten short
+
+pub returns-in-Some-2-clause-left : goal.returns-in-Some-2-clause-left
+returns-in-Some-2-clause-left g c =
+    let byte : ReadsByte (g.R.Read.remaining c.loop-at.input)
+    (g.R.Read.remaining c.next_byte-2.new.input) (Some c.in-Some-2._byte) =
+    rw c.in-Some-2.is at c.in_ok-next_byte-2.ensures.read in
+    let full : length (take c.loop-at.at c.loop-at.buffer) ≡ 1036 = grind (arith, common_steps) in
+    no_further_long _ _ _ _ _ c.loop-at.invariant.read
+    (recursion_from_All _ _ c.loop-at.invariant.unbroken) byte full
+
+pub returns-in-None-2-clause-left : goal.returns-in-None-2-clause-left
+returns-in-None-2-clause-left g c =
+    let short : length (take c.loop-at.at c.loop-at.buffer) ≤ 1037 = grind (arith, common_steps) in
+    no_further_end _ _ _ _ c.loop-at.invariant.read
+    (recursion_from_All _ _ c.loop-at.invariant.unbroken)
+    (rw c.in-None-2.is at c.in_ok-next_byte-2.ensures.read) short
+
+pub returns-in-Some-eq10-2-clause-left : goal.returns-in-Some-eq10-2-clause-left
+returns-in-Some-eq10-2-clause-left g c =
+    let ten : ReadsByte (g.R.Read.remaining c.loop-at.input)
+    (g.R.Read.remaining c.next_byte-2.new.input) (Some 10) =
+    rw (c.in-Some-eq10-2.is, c.in-Some-eq10-2.field-0-test)
+    at c.in_ok-next_byte-2.ensures.read in
+    let short : length (take c.loop-at.at c.loop-at.buffer) < 1037 = grind (arith, common_steps) in
+    no_further_break _ _ _ _ c.loop-at.invariant.read
+    (recursion_from_All _ _ c.loop-at.invariant.unbroken) ten short
 
 pub returns-in-Some-eq10-clause-taken : goal.returns-in-Some-eq10-clause-taken
 returns-in-Some-eq10-clause-taken g c =
@@ -123,6 +172,11 @@ returns-in_err-next_byte-clause-line g c =
     let p = err_from_is_err_and c.from_residual.result c.from_residual.ensures.1 in
     rw p.1 tt
 
+pub returns-in_err-next_byte-clause-left : goal.returns-in_err-next_byte-clause-left
+returns-in_err-next_byte-clause-left g c =
+    let p = err_from_is_err_and c.from_residual.result c.from_residual.ensures.1 in
+    rw p.1 tt
+
 pub returns-in_err-next_byte-clause-taken : goal.returns-in_err-next_byte-clause-taken
 returns-in_err-next_byte-clause-taken g c =
     (_, Consumes-kept _ _ _ _ c.loop-at.invariant.read c.in_err-next_byte.ensures.kept)
@@ -141,6 +195,12 @@ returns-in_err-next_byte-clause-stopped g c =
 
 pub returns-in_err-next_byte-2-clause-line : goal.returns-in_err-next_byte-2-clause-line
 returns-in_err-next_byte-2-clause-line g c =
+    let p = err_from_is_err_and c.from_residual-in_err-next_byte-2.result
+    c.from_residual-in_err-next_byte-2.ensures.1 in
+    rw p.1 tt
+
+pub returns-in_err-next_byte-2-clause-left : goal.returns-in_err-next_byte-2-clause-left
+returns-in_err-next_byte-2-clause-left g c =
     let p = err_from_is_err_and c.from_residual-in_err-next_byte-2.result
     c.from_residual-in_err-next_byte-2.ensures.1 in
     rw p.1 tt

@@ -5,7 +5,6 @@ use Rattle.s10_ends.specs.Served.{Served}
 use Rattle.s10_ends.specs.Runs.{dated}
 use Rattle.s10_jobs.specs.InputLines.{without_return}
 use Rattle.s10_jobs.specs.LineReader.{ReadsByte, ReadsLine}
-use Rattle.s10_jobs.specs.declared.line_reader.TheConstants.{MAX_LINE}
 use Rattle.s10_jobs.specs.declared.line_reader.NextLine.TheVariants.{End, Whole, Long}
 use Rattle.s10_jobs.proofs.ReplayedLines.{at_start, one_more, one_empty, ends_at_end, ends_too_long}
 use Rattle.s10_jobs.proofs.ReplayedLines.{ends_refused, ends_stopped, ends_unread, ends_last}
@@ -57,7 +56,7 @@ returns-in-Long-clause-replayed g c = λ h.
     (g.R.Read.remaining c.read_line.new.input) (g.W.Write.contents c.args.output.now)
     (g.W.Write.contents c.loop-done.output)
     c.read_line.new.buffer c.loop-done.done c.loop-done.count (c.loop-done.invariant.replayed h)
-    read
+    read c.in-Ok.ensures.left (omega arith)
 
 pub returns-in-None-2-clause-replayed : goal.returns-in-None-2-clause-replayed
 returns-in-None-2-clause-replayed g c = λ h.
@@ -74,7 +73,8 @@ returns-in-None-2-clause-replayed g c = λ h.
     (g.R.Read.remaining c.read_line.new.input) (g.W.Write.contents c.args.output.now)
     (g.W.Write.contents c.loop-done.output)
     c.read_line.new.buffer c.in-Whole.len c.loop-done.done c.loop-done.count
-    (c.loop-done.invariant.replayed h) read (sym c.in-None-2.ensures) full
+    (c.loop-done.invariant.replayed h) read c.in-Ok.ensures.left (omega arith)
+    (sym c.in-None-2.ensures) full
 
 pub returns-in-Ok-None-clause-replayed : goal.returns-in-Ok-None-clause-replayed
 returns-in-Ok-None-clause-replayed g c = λ h.
@@ -116,7 +116,7 @@ loop-done-preserved g c =
     let read : ReadsLine (g.R.Read.remaining c.loop-done.input)
     (g.R.Read.remaining c.read_line.new.input) c.read_line.new.buffer (Whole c.in-Whole.len) =
     rw c.in-Whole.is at c.in-Ok.ensures.line in
-    let short : c.in-Whole.len ≤ MAX_LINE = rw c.in-Whole.is at c.in-Ok.ensures.fits in
+    let short : c.in-Whole.len ≤ 1036 = rw c.in-Whole.is at c.in-Ok.ensures.fits in
     elim c.match-read_delivery.branch [
       | in-Some+in-Ok-write_answer w ↦ rw (w.server-is, w.output-is, w.count-is) (record {
         few = omega (arith, before.few);
