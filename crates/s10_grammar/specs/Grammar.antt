@@ -12,7 +12,6 @@ use Rattle.clap.specs.declared.builder.command.Command.TheViews.{out-Command as 
 use Rattle.clap.specs.declared.builder.value_parser.ValueParser.TheVariants.{Signed}
 use Rattle.clap.specs.declared.error.Error.{Error}
 use Rattle.clap.specs.declared.parser.matches.ArgMatches.{ArgMatches}
-use Rattle.s10_history.specs.declared.settings.TheConstants.{MAX_INTERVAL, MAX_LIMIT}
 
 -- A required argument that is given by its position.
 abbrev pub a_word : Text → Rule
@@ -52,11 +51,11 @@ a_number name = whole (a_text name)
 
 -- The option `--interval`, in days.
 abbrev pub interval : Rule
-interval = between 1 MAX_INTERVAL (an_option (codes "interval"))
+interval = between 1 3650 (an_option (codes "interval"))
 
 -- The option `--limit`: a maximum number of calls.
 abbrev pub limit : Rule
-limit = between 1 MAX_LIMIT (an_option (codes "limit"))
+limit = between 1 1000000000 (an_option (codes "limit"))
 
 -- The option `--day`, which may be left out.
 abbrev pub day : Rule
