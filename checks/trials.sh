@@ -128,6 +128,7 @@ create() { # STATUS LINE WORDS CHANGES FILE
 
 # Starts a server over a ledger. Sets `server` to its process id and `address` to its address.
 serve() { # FILE
+    : >../told
     $as "$s10" serve --ledger "$1" --bind 127.0.0.1:0 --count 4294967295 --day 20000 >../turns 2>../told </dev/null &
     server=$!
     for _ in $(seq 600); do
