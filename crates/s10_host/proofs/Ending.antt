@@ -605,18 +605,19 @@ module _ (S : RattleType) (first : Ghosts S.Denot) where
       (day : Option ℕ) (begun between ended : C) (report : Report) (old new : Option (List ℕ))
       (result : Result JobStatus WriteFault)
       (files : Option (ClosedFiles S first)) (link : Option BoundLink)
-      → IsAskedFor gives is_of_issues day begun ended report
+      → IsAskedFor gives is_of_issues day begun between report
       → EndsIn S first gives (ReportOn report) between ended old new result files link
       → HasReported S first gives is_of_issues day begun ended old new result files
   reported_in gives is_of_issues day begun between ended report old new result files link asked
       (inl (was, found, ends)) = inr (
         report,
+        between,
         asked,
         reported_over gives report between ended was old new result files link found ends,
       )
   reported_in gives is_of_issues day begun between ended report old new result files link asked
       (inr (printed, no_files, no_link)) =
-      inr (report, asked, inl (unopened old new result files printed no_files))
+      inr (report, between, asked, inl (unopened old new result files printed no_files))
 
   -- An audit that left these files.
   pub audited_in : (was left : FileConnection S first) (finding : Result ℕ OpenFault)

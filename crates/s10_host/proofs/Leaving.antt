@@ -11,7 +11,7 @@ use Rattle.s10_lines.specs.declared.write_fault.WriteFault.{WriteFault}
 use Rattle.s10_link.specs.declared.peer.Peer.{Peer}
 use Rattle.s10_link.specs.declared.trace.Trace.{Trace}
 use Rattle.s10_link.specs.Link.{LeadsTo}
-use Rattle.s10_link.specs.Link.LeadsTo.{none, more}
+use Rattle.s10_link.specs.Link.LeadsTo.{none as led_none, more}
 use Rattle.s10_link.proofs.Led.{led_on}
 use Rattle.s10_ends.proofs.Bound.{at_stays, still_bound}
 use Rattle.s10_link.specs.Trace.{new_trace}
@@ -37,7 +37,7 @@ Stays a b = b.at ≡ a.at
 -- The far end of a loop stays at its address.
 far_stays : (begun ended : LoopLink) → LeadsTo IsLoopStep begun ended
     → LeadsTo Stays begun.far ended.far
-far_stays begun _ none = none
+far_stays begun _ led_none = led_none
 far_stays begun ended (more {between = between} led step) =
     led_on (far_stays begun between led) step.led
 

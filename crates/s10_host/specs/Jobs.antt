@@ -240,7 +240,7 @@ module _ (S : RattleType) (first : Ghosts S.Denot) where
   HasReported gives is_of_issues day begun ended old new result files =
       ((is_of_issues ≡ false) × IsTaken gives day None begun ended × (files ≡ None)
       × IfOk result (λ status. (status ≡ Failed) × Appends old new (codes "clock\n")))
-      ⊎ ((report : Report) × IsAskedFor gives is_of_issues day begun ended report
+      ⊎ ((report : Report) × (taken : _) × IsAskedFor gives is_of_issues day begun taken report
       × (IsUnopened old new result files ⊎ IsReportOf report old new result files))
 
   -- The ledger in the files was audited, the finding was printed, and the files were closed as they

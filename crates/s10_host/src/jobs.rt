@@ -1,7 +1,7 @@
 //! Runs the jobs over files, sockets and the clock. `S` represents what the files held.
 
 ghost use Rattle.std.specs.Prelude.{◌≡◌, ℕ, codes, false, Some, None, Result, Ok, Err, IsOk, IfOk};
-ghost use Rattle.std.specs.Prelude.{IfSome};
+ghost use Rattle.std.specs.Prelude.{◌↔◌, IfSome, IsTrue};
 ghost use Rattle.std.specs.Io.KnownBytes.{Appends};
 ghost use Rattle.sqlite.specs.Files.{over_files};
 ghost use Rattle.s10_rows.specs.declared.open_fault.OpenFault.{OpenFault};
@@ -162,14 +162,19 @@ fn run_create<S: Start, D: Days, W: Write>(
             let (made, link, files) = run_and_close_file(
                 rt, ledger, connection, missing, create, days, out,
             );
-            let created = match made {
-                Ok(JobStatus::Done) => write_created(out),
-                other => other,
-            };
-            (created, left_of_task(link, files))
+            if is_done(&made) {
+                return (write_created(out), left_of_task(link, files));
+            }
+            (made, left_of_task(link, files))
         }
         Err(fault) => with_link((fail_by_ledger(fault, out), None)),
     }
+}
+
+fn is_done(made: &Result<JobStatus, WriteFault>) -> bool
+    ensures { IsTrue result ↔ (made.now ≡ Ok JobStatus.Done) }
+{
+    matches!(made, Ok(JobStatus::Done))
 }
 
 fn write_created<W: Write>(out: &mut W) -> Result<JobStatus, WriteFault>

@@ -1,4 +1,4 @@
-use Rattle.std.proofs.Common.{refl, sym}
+use Rattle.std.proofs.Common.{rules, sym}
 use Rattle.s10_host.proofs.Auditing.{found_calls}
 use Rattle.s10_host.proofs.audit.audit_ledger.Goals as goal
 
@@ -14,7 +14,7 @@ pub returns-in-Err : goal.returns-in-Err
 returns-in-Err g c = record {
   sound = c.in-Err.ensures.was_refused;
   opened = λ _. tt;
-  committed = λ clean live. sym (c.is_autocommit.ensures.settled (rw c.in-Err.ensures.left_idle refl) live);
+  committed = λ clean live. sym (c.is_autocommit.ensures.settled (search rules) live);
   finding = c.in-Err.ensures.refused;
   leaves = c.in-Err.ensures.kept;
 }

@@ -54,7 +54,7 @@ returns-in-Refused-clause-worked g c work so =
 pub close_refused-files-requires : goal.close_refused-files-requires
 close_refused-files-requires g c =
     let (asked, is, refusal, silent) = c.in-Refused.ensures.refused c.in-Refused.refusal refl in
-    refusal.idle
+    record { idle = refusal.idle }
 
 pub returns-in-Refused-clause-audited : goal.returns-in-Refused-clause-audited
 returns-in-Refused-clause-audited g c so =

@@ -1,29 +1,5 @@
-use Rattle.std.proofs.Common.{refl}
-use Rattle.s10_host.proofs.Ending.{created, not_created, not_connected}
+use Rattle.s10_host.proofs.Ending.{not_connected}
 use Rattle.s10_host.proofs.jobs.run_create.Goals as goal
-
-pub returns-in-Ok : goal.returns-in-Ok
-returns-in-Ok g c =
-    rw c.left_of_task.ensures.files (
-    created _ g.S.Start g.D.Days.gives c.args.settings _ _ c.in-Ok.connection
-    (g.W.Write.contents c.args.out.now)
-    (g.W.Write.contents c.run_and_close_file-made.new.out)
-    (g.W.Write.contents c.write_created.new.out)
-    c.run_and_close_file-made.result.0 c.write_created.result c.run_and_close_file-made.result.2
-    c.run_and_close_file-made.result.1 c.in-Ok.ensures.found c.in-Ok-Done.is
-    (c.run_and_close_file-made.ensures.worked _ refl) c.write_created.ensures
-    )
-
-pub returns-in_default : goal.returns-in_default
-returns-in_default g c =
-    rw c.left_of_task-in_default.ensures.files (
-    not_created _ g.S.Start g.D.Days.gives c.args.settings _ _ c.in-Ok.connection
-    (g.W.Write.contents c.args.out.now)
-    (g.W.Write.contents c.run_and_close_file-made.new.out)
-    c.run_and_close_file-made.result.0 c.run_and_close_file-made.result.2
-    c.run_and_close_file-made.result.1 c.in_default.not-Ok-Done c.in-Ok.ensures.found
-    (c.run_and_close_file-made.ensures.worked _ refl)
-    )
 
 pub returns-in-Err : goal.returns-in-Err
 returns-in-Err g c =
