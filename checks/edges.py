@@ -7,6 +7,7 @@ line, and what its help says of the exit statuses.
 Each part prints a line. The sockets of a process are read from /proc; without it that part is skipped.
 """
 
+import contextlib
 import os
 import re
 import signal
@@ -47,8 +48,10 @@ def run(*words):
 
 def sockets_of(process):
     """Returns the addresses of the UDP sockets of a process."""
-    links = [os.readlink(it) for it in Path(f"/proc/{process}/fd").iterdir() if it.is_symlink()]
-    found = []
+    links, found = [], []
+    for it in Path(f"/proc/{process}/fd").iterdir():
+        with contextlib.suppress(FileNotFoundError):  # A file that was closed meanwhile.
+            links.append(os.readlink(it))
     for line in Path("/proc/net/udp").read_text(encoding="ascii").splitlines()[1:]:
         words = line.split()
         if f"socket:[{words[9]}]" in links:
