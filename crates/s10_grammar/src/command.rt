@@ -25,8 +25,9 @@ use std::convert::AsStr;
 const VERSION: &str = "0.1.0";
 
 const STATUSES: &str = "\
-Exit status: 0 done; 1 refused by a rule; 2 the words are no command line; 3 a link, a ledger, the
-clock, memory, input or output failed. `s10 help COMMAND` explains a command, with examples.";
+Exit status: 0 done; 1 a text, an input line or, by a rule, a request is refused; 2 the words are no
+command line; 3 no reply came, or a link, a ledger, the clock, memory, input or output failed. `s10
+help COMMAND` explains a command, with examples.";
 
 /// Builds the command `s10` with all its subcommands.
 ///

@@ -29,8 +29,9 @@ const REPLAY_EXAMPLES: &str = "\
 Each line of the input is DAY, one space, HEX: the day as a number up to 4294967295, and the bytes
 of a datagram, two hexadecimal digits each. For each the reply is printed in hexadecimal digits, or
 `dropped` and what is wrong with the datagram, or `faulted` with `memory` or `full`. An empty line
-is ignored. A line of any other form ends the replay with `refused line N` and exit status 1;
-`input` or `output`, with status 3, say what failed.
+is ignored. A line of any other form ends the replay with `refused line N` and exit status 1. With
+status 3, `input` says that the input could not be read, and standard error says why; `output` says
+that the output failed, and `memory` that memory ran out.
 
 Example:
   printf '20000 53310102000000070000000152414742\\n' | s10 replay

@@ -60,11 +60,20 @@ Prints one line for each turn, as it is done:
 Datagrams that have arrived, up to 64, are one batch: their calls are written in one transaction,
 then the replies are sent, then the lines are printed.
 
-After the last turn the ledger is closed and the exit status is 0. `refused peer`, with status 1,
-says that the address is invalid. With status 3, `ledger FAULT` says that the ledger could not be
-opened or closed, `link bind` that the address cannot be bound, and `clock` that the clock gives no
-day. A stop at any moment leaves a ledger that opens. The address that is served at is printed to
-standard error. There is no authentication: whoever reaches the address can ask as customer 0.
+After the last turn the ledger is closed, and the exit status is 0. A line of another kind says why
+`serve` ended with status 3, or 1 for `refused peer`:
+  refused peer       the address is invalid
+  memory             memory ran out before the ledger was opened
+  ledger FAULT       the ledger could not be opened: not-a-ledger, schema N, damaged N, memory or
+                     store
+  ledger store       after the turns: the last calls could not be written, or the ledger not closed
+  link bind          the address cannot be bound
+  clock              the clock gives no day
+If standard output fails, `serve` ends with status 3 and standard error says why.
+
+A stop at any moment leaves a ledger that opens. Standard error has the address that is served at,
+the reason why a ledger cannot be opened, and the sender of a dropped datagram, in at most one line
+a minute. There is no authentication: whoever reaches the address can ask as customer 0.
 
 Example:
   s10 serve --ledger post.db --bind 127.0.0.1:4711 --count 1
