@@ -10,3 +10,4 @@ pub mod Earlier
 pub mod IssueLemmas
 pub mod Voiding
 pub mod WrittenLemmas
+pub mod ReplayFaults

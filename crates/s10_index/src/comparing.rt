@@ -1,6 +1,6 @@
 //! Compares the rows of a ledger with those of its calls.
 
-ghost use Rattle.std.specs.Prelude.{◌≡◌, ◌≤◌, ◌↔◌, pos, length, All, IfOk, IfErr, OnOk, IsTrue};
+ghost use Rattle.std.specs.Prelude.{◌≡◌, ◌≤◌, ◌↔◌, ◌⊎◌, pos, length, All, IfOk, IfErr, OnOk, IsTrue};
 ghost use Rattle.s10_history.specs.declared.settings.TheConstants.{MAX_LIMIT};
 ghost use Rattle.s10_history.specs.Settings.{Terms};
 ghost use Rattle.s10_index.specs.CallIndex.{Indexes};
@@ -21,6 +21,7 @@ use std::alloc::Global;
 // Returns whether these are the rows of `ranges` of the book's history.
 fn ranges_match(alloc: Global, book: &IndexedBook, rows: Vec<RangeRow>) -> Result<bool, OpenFault>
     ensures err { (tables : Tables) → IfErr result (IsRefusal tables) }
+    ensures memory { IfErr result (λ f. f ≡ OpenFault.Memory) }
     ensures answer { IfOk result (λ b. IsTrue b
         ↔ HaveSameRows (range_rows book.now.index.entries.items) rows.items) }
 {
@@ -33,6 +34,7 @@ fn ranges_match(alloc: Global, book: &IndexedBook, rows: Vec<RangeRow>) -> Resul
 // Returns whether these are the rows of `serials` of the book's history.
 fn serials_match(alloc: Global, book: &IndexedBook, rows: Vec<SerialRow>) -> Result<bool, OpenFault>
     ensures err { (tables : Tables) → IfErr result (IsRefusal tables) }
+    ensures memory { IfErr result (λ f. f ≡ OpenFault.Memory) }
     ensures answer { All IsCall book.now.index.entries.items
         → IfOk result (λ b. IsTrue b ↔ HaveSameRows (serial_rows book.now.index.entries.items)
         rows.items) }
@@ -46,6 +48,7 @@ fn serials_match(alloc: Global, book: &IndexedBook, rows: Vec<SerialRow>) -> Res
 // Returns whether these are the rows of `closed` of the book's history.
 fn closed_match(alloc: Global, book: &IndexedBook, rows: Vec<ClosedRow>) -> Result<bool, OpenFault>
     ensures err { (tables : Tables) → IfErr result (IsRefusal tables) }
+    ensures memory { IfErr result (λ f. f ≡ OpenFault.Memory) }
     ensures answer { IfOk result (λ b. IsTrue b
         ↔ HaveSameRows (closed_rows book.now.index.entries.items) rows.items) }
 {
@@ -65,6 +68,7 @@ fn compare_rows(alloc: Global, book: &IndexedBook, rows: StoredRows) -> Result<(
         → IsHead tables.heads (pos 1) t → AreRight t tables.calls → book.now.index.entries.items
         ≡ kept_of tables.calls
         → IfErr result (IsRefusal tables) }
+    ensures fault { IfErr result (λ f. (f ≡ OpenFault.Damaged 0) ⊎ (f ≡ OpenFault.Memory)) }
 {
     let ranges = ranges_match(alloc, book, rows.ranges)?;
     let serials = serials_match(alloc, book, rows.serials)?;
@@ -97,6 +101,7 @@ pub fn check_tables(
         → IfOk result (λ found. IsConsistent tables found.0) }
     ensures err { (tables : Tables) → AreDerivedRows tables rows
         → IsReplayedBook tables.heads tables.calls made → IfErr result (IsRefusal tables) }
+    ensures fault { IfErr result (λ f. (f ≡ OpenFault.Damaged 0) ⊎ (f ≡ OpenFault.Memory)) }
 {
     let ReplayedBook { book, opened } = made;
     compare_rows(alloc, &book, rows)?;

@@ -25,7 +25,7 @@ use s10_history::{
 use std::alloc::{AllocError, Global};
 
 /// A book in memory over an index of its calls. It is always honest, and only `keep` can fail, with
-/// `Memory`.
+/// `Memory`. It never counts a fault of the store.
 ///
 /// `usage` looks up each serial of the range; no other read walks the serials or the calls.
 #[derive(Drop)]
@@ -38,6 +38,7 @@ pub struct IndexedBook {
     pub(crate) index: CallIndex,
     ghost indexed: { Indexes index index.entries.items },
     ghost legal: { IsLegal index.entries.items settings },
+    ghost no_store_fault: { faults.store ≡ 0 },
 }
 
 impl IndexedBook {

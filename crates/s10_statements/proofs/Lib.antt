@@ -24,3 +24,4 @@ pub mod WriteLemmas
 pub mod StepLemmas
 pub mod TransactionLemmas
 pub mod CallLemmas
+pub mod FaultLemmas

@@ -140,6 +140,7 @@ pub fn refusal_of<S: Alter>(conn: &Connection<S>) -> Option<OpenFault>
     ensures refusal { IfSome result (IsCreateRefusal (state S.Store conn.now).now.schema) }
     ensures none { result ≡ None → (state S.Store conn.now).now.schema ≡ no_schema }
     ensures fresh { result ≡ None → ¬ HasOneOfTheNames (state S.Store conn.now).now.schema }
+    ensures fault { IfSome result (λ f. (f ≡ OpenFault.NotEmpty) ⊎ (f ≡ OpenFault.Store)) }
 {
     let schema = conn.schema();
     if schema.table_named(b"head").is_some()

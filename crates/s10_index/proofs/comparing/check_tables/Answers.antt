@@ -27,3 +27,11 @@ returns-clause-indexed c = λ tables it. subst (λ (l : List Entry). Indexes c.i
 
 pub returns-clause-err : goal.returns-clause-err
 returns-clause-err c = λ tables theirs it. tt
+
+pub returns-in_err-compare_rows-clause-fault : goal.returns-in_err-compare_rows-clause-fault
+returns-in_err-compare_rows-clause-fault c =
+    let p = err_from_is_err_and c.from_residual.result c.from_residual.ensures.1 in
+    rw (p.1, p.2) c.in_err-compare_rows.ensures.fault
+
+pub returns-clause-fault : goal.returns-clause-fault
+returns-clause-fault c = tt

@@ -1,4 +1,4 @@
-use Rattle.std.proofs.Common.{◌≡◌, sym, subst, ◌∙◌, List, Less}
+use Rattle.std.proofs.Common.{◌≡◌, sym, subst, ◌∙◌, List, Less, refl}
 use Rattle.std.specs.Prelude.{IsTrue, ◌↔◌}
 use Rattle.std.specs.Ordering.{int_cmp}
 use Rattle.s10_replay.specs.Ascending.{IsAscending}
@@ -16,3 +16,6 @@ returns-clause-answer c =
     subst Same made
     (c.same_closed.ensures
     (subst Up (sym made) (closed_rows_rise c.args.book.now.index.entries.items)))
+
+pub returns-in_default-clause-memory : goal.returns-in_default-clause-memory
+returns-in_default-clause-memory c = refl

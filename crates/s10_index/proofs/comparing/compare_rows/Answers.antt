@@ -1,4 +1,4 @@
-use Rattle.std.proofs.Common.{sym, subst, All, List}
+use Rattle.std.proofs.Common.{sym, subst, All, List, inl, inr, refl}
 use Rattle.std.proofs.lemmas.Result.{err_from_is_err_and}
 use Rattle.std.proofs.lemmas.Bool.{both_ways}
 use Rattle.s10_history.specs.declared.entry.Entry.{Entry}
@@ -82,3 +82,21 @@ returns-else-ranges-clause-err c tables t theirs head right kept = (
             (range_rows (kept_of tables.calls)) l) theirs.ranges made.ranges))
       ],
 )
+
+pub returns-in_err-ranges-clause-fault : goal.returns-in_err-ranges-clause-fault
+returns-in_err-ranges-clause-fault c =
+    let p = err_from_is_err_and c.from_residual.result c.from_residual.ensures.1 in
+    rw (p.1, p.2) (inr c.in_err-ranges.ensures.memory)
+
+pub returns-in_err-serials-clause-fault : goal.returns-in_err-serials-clause-fault
+returns-in_err-serials-clause-fault c =
+    let p = err_from_is_err_and c.from_residual-in_err-serials.result c.from_residual-in_err-serials.ensures.1 in
+    rw (p.1, p.2) (inr c.in_err-serials.ensures.memory)
+
+pub returns-in_err-closed-clause-fault : goal.returns-in_err-closed-clause-fault
+returns-in_err-closed-clause-fault c =
+    let p = err_from_is_err_and c.from_residual-in_err-closed.result c.from_residual-in_err-closed.ensures.1 in
+    rw (p.1, p.2) (inr c.in_err-closed.ensures.memory)
+
+pub returns-else-ranges-clause-fault : goal.returns-else-ranges-clause-fault
+returns-else-ranges-clause-fault c = inl refl

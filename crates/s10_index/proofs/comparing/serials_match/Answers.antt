@@ -1,4 +1,4 @@
-use Rattle.std.proofs.Common.{sym, subst}
+use Rattle.std.proofs.Common.{sym, subst, refl}
 use Rattle.std.proofs.lemmas.List.Sorted.{IsPermutation-refl}
 use Rattle.s10_rows.specs.Tables.{HaveSameRows, serial_rows}
 use Rattle.s10_replay.proofs.Compared.{serial_rows_apart, alike}
@@ -11,3 +11,6 @@ returns-clause-answer c calls =
     subst (HaveSameRows (serial_rows h)) (sym c.in-Ok.ensures) ∣ IsPermutation-refl
     (serial_rows h) ∣₁ in
     alike _ _ _ _ like (c.same_serials.ensures (serial_rows h) (serial_rows_apart h calls) like)
+
+pub returns-in_default-clause-memory : goal.returns-in_default-clause-memory
+returns-in_default-clause-memory c = refl

@@ -13,6 +13,7 @@ invariant_of-self c =
       indexed = subst (Indexes c.reserve.new.self) (sym same)
           (c.reserve.ensures.same h c.args.self.now.indexed);
       legal = rw same c.args.self.now.legal;
+      no_store_fault = c.args.self.now.no_store_fault;
     }
 
 pub invariant_of-self-2 : goal.invariant_of-self-2
@@ -26,6 +27,7 @@ invariant_of-self-2 c =
           (c.follow.ensures.followed h t c.args.self.now.legal c.requires
           (c.reserve.ensures.same h c.args.self.now.indexed));
       legal = rw grown (IsLegal-push h t c.args.entry c.args.self.now.legal c.requires);
+      no_store_fault = c.args.self.now.no_store_fault;
     }
 
 pub follow-requires-clause-fits : goal.follow-requires-clause-fits
