@@ -178,9 +178,10 @@ def each_refusal(name, room, refusals, do, step=1):
         return is_refused
 
     count, whole = 0, True
+    together = 64 if STEP == 1 else 8
     with ThreadPoolExecutor(len(os.sched_getaffinity(0))) as several:
         while whole:
-            found = list(several.map(tried, [1 + step * at for at in range(count, count + (64 if step == 1 else 8))]))
+            found = list(several.map(tried, [1 + step * at for at in range(count, count + together)]))
             whole = all(found)
             count += found.index(False) if not whole else len(found)
     if count == 0:
