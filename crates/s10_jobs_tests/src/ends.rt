@@ -18,6 +18,7 @@ mod scripts;
 mod story;
 mod turn_ends;
 mod turns;
+mod udp_addresses;
 mod udp_links;
 mod withdrawals;
 mod worlds;
