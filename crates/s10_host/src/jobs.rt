@@ -32,7 +32,7 @@ use s10_jobs::{
 use s10_ledger::{OpenFault, Refused};
 use s10_lines::{WriteFault, write_text};
 use s10_link::Peer;
-use s10_sockets::{ask_question, bind_client};
+use s10_sockets::{ask_question, bind_client, eprint_failure};
 use sqlite::{Connection, FileStore, Files, Start};
 use sqlite_disk::Disk;
 use std::io::Write;
@@ -126,6 +126,7 @@ fn run_question<W: Write>(
         Err(fault) => return (fail_by_link(fault, out), None),
     };
     let asked = ask_question(question, &mut link, to, body, out);
+    eprint_failure(rt, to, &link);
     (asked, Some(link))
 }
 
