@@ -10,3 +10,4 @@ pub mod WholeLemmas
 pub mod ReadingLemmas
 pub mod OpeningLemmas
 pub mod RefusalLemmas
+pub mod FaultLemmas

@@ -1,5 +1,6 @@
 -- Defines what a ledger in tables holds, and when it is honest.
-use Rattle.std.specs.Prelude.{◌≡◌, ◌⊎◌, ℕ, zero, suc, ◌+◌, ℤ, pos, IsTrue, List, [], ◌++◌}
+use Rattle.std.specs.Prelude.{◌≡◌, ◌⊎◌, ℕ, zero, suc, ◌+◌, ◌-◌, ◌^◌, ◌≤◌, min, ℤ, pos, IsTrue}
+use Rattle.std.specs.Prelude.{List, [], ◌++◌}
 use Rattle.std.specs.Prelude.{length, map, filter, All, Option, Some, None, refl}
 use Rattle.std.specs.Coded.{Coded, code_by, coded×, coded_ℕ, coded_list}
 use Rattle.sqlite_value.specs.declared.value.Value.{Value}
@@ -189,6 +190,10 @@ MayFindAlso g old new calls = FindsAfter (IsHonest g) (IsOverCleanDisk g) (MayFi
 -- The connection is open if its disk is clean.
 abbrev pub IsOpenIfClean : {S : Type 0} → Ghosts S → Held S → Type 0
 IsOpenIfClean g conn = HasCleanDisk (state g conn) → IsTrue (state g conn).is_open
+
+-- The disk has failed or refused since: the count of its faults rose, or is at the greatest u64.
+abbrev pub HasFailed : {S : Type 0} → Ghosts S → Held S → Held S → Type 0
+HasFailed g old new = min ((state g old).faults + 1) (2 ^ 64 - 1) ≤ (state g new).faults
 
 -- What a stop may leave could be left before the call.
 abbrev pub LeavesCommitted : {S : Type 0} → Ghosts S → Held S → Held S → Type 0

@@ -14,7 +14,8 @@ ghost use Rattle.s10_statements.specs.Shown.{StandsFor};
 ghost use Rattle.s10_rows.specs.Selected.{IsCall};
 ghost use Rattle.s10_statements.specs.ConnectionState.{AddsNoCrashState};
 ghost use Rattle.s10_statements.specs.Statements.{LeavesTables};
-ghost use Rattle.s10_ledger.specs.Ledger.{LeavesCommitted};
+ghost use Rattle.s10_ledger.specs.Ledger.{LeavesCommitted, HasFailed};
+ghost use Rattle.s10_schema.specs.Schema.{IsLedgerSchema};
 
 use crate::faults::fault_of;
 use s10_book::BookFault;
@@ -32,6 +33,9 @@ pub(crate) fn ask<S: Alter>(conn: &mut Connection<S>) -> Result<(), BookFault>
     ensures opened { HasCleanDisk (state S.Store conn.new)
         → OnOk result (IsTrue (state S.Store conn.new).is_open) }
     ensures fault { result ≢ Err Full }
+    ensures store { HasCleanDisk (state S.Store conn.new) → IsTrue (state S.Store conn.old).is_open
+        → IsLedgerSchema (state S.Store conn.old).now.schema → result ≡ Err BookFault.Store
+        → HasFailed S.Store conn.old conn.new }
 {
     match conn.prepare("SELECT one, schema, interval, cap FROM head") {
         Ok(_) => Ok(()),

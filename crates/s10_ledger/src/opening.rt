@@ -16,7 +16,7 @@ ghost use Rattle.s10_ledger.specs.TableLayout.{IsOfTableLayout, HasTableLayout};
 ghost use Rattle.s10_ledger.specs.AllRows.{IsFound};
 ghost use Rattle.s10_ledger.specs.Ledger.{IsLedger, IsAnyLedger, IsIndexed, history_in};
 ghost use Rattle.s10_ledger.specs.Ledger.{MayComplete};
-ghost use Rattle.s10_ledger.specs.Refusals.{IsOpeningRefusal};
+ghost use Rattle.s10_ledger.specs.Refusals.{IsOpeningRefusal, HasSomeTableLayout};
 
 use crate::faults::opening_fault;
 use crate::reading::read_tables;
@@ -130,6 +130,8 @@ pub(crate) fn ledger_in<S: Alter, W: Observer>(
     ensures refused { HasCleanDisk (state S.Store conn.new)
         → IsTrue (state S.Store conn.new).is_open
         → IfErr result (IsOpeningRefusal (state S.Store conn.old).now) }
+    ensures no_tables { ¬ HasSomeTableLayout (state S.Store conn.old).now.schema
+        → IfErr result (λ f. f ≡ OpenFault.NotALedger) }
 {
     let Some(form) = table_layout_of(conn.schema()) else {
         return Err(OpenFault::NotALedger);
@@ -149,7 +151,7 @@ impl<S: Alter> SqlBook<S> {
     ghost use Rattle.s10_schema.specs.Schema.{IsClosedSchema};
     ghost use Rattle.s10_ledger.specs.Ledger.{IsAnyLedger, IsHonest, history_in, history_of};
     ghost use Rattle.s10_ledger.specs.Ledger.{committed_of, MayComplete};
-    ghost use Rattle.s10_ledger.specs.Refusals.{IsOpeningRefusal};
+    ghost use Rattle.s10_ledger.specs.Refusals.{IsOpeningRefusal, HasSomeTableLayout};
 
     /// Opens a ledger: executes all its calls again, and compares the rows of the other tables with
     /// the derived ones.
@@ -211,6 +213,8 @@ impl<S: Alter> SqlBook<S> {
             → IsTrue (state S.Store r.connection).is_open
             → (t : Terms) (len day : ℕ) → AreTerms t → IsAnyLedger (state S.Store conn).now t len
             day → (r.fault ≡ OpenFault.Memory) ⊎ (r.fault ≡ OpenFault.Store)) }
+        ensures no_tables { ¬ HasSomeTableLayout (state S.Store conn).now.schema
+            → IfErr result (λ r. r.fault ≡ OpenFault.NotALedger) }
     {
         // Brings into scope that a connection in no transaction has nothing to commit.
         prove!(conn.is_autocommit());

@@ -1,7 +1,7 @@
 //! The pending calls: appends a call to them, and commits them, with one more call or without.
 
 ghost use Rattle.std.specs.Prelude.{◌≡◌, ◌≢◌, ◌⊎◌, ◌<◌, ◌≤◌, ◌++◌, ◌∷◌, [], List, length, Err};
-ghost use Rattle.std.specs.Prelude.{IsTrue, IfOk, OnOk, OnErr};
+ghost use Rattle.std.specs.Prelude.{IsTrue, IfOk, IfErr, OnOk, OnErr};
 ghost use Rattle.std.specs.List.{list_any};
 ghost use Rattle.sqlite_trees.specs.Tree.{Trees};
 ghost use Rattle.sqlite_trees.specs.View.{doubt};
@@ -87,6 +87,8 @@ fn prepared_write(
     ensures fits { OnOk result (IsTrue (fits entry.now.request.body entry.now.outcome)) }
     ensures entry { IfOk result (λ write. write.entry ≡ entry.now) }
     ensures writes { IfOk result (IsWriteOf index.old entry.now) }
+    ensures memory { (h : List Entry) (t : Terms) → IsLegal h t → MayFollow h t entry.now
+        → Indexes index.old h → t.limit ≤ limit → IfErr result (λ f. f ≡ BookFault.Memory) }
 {
     let held = index.calls().len();
     if held >= limit as usize {
@@ -122,6 +124,8 @@ pub(crate) fn append_pending(
         → Indexes index.old h → OnOk result (Indexes index.new (h ++ entry.now ∷ [])) }
     ensures same_index { (h : List Entry) → Indexes index.old h
         → OnErr result (Indexes index.new h) }
+    ensures memory { (h : List Entry) (t : Terms) → IsLegal h t → MayFollow h t entry.now
+        → Indexes index.old h → t.limit ≤ limit → IfErr result (λ f. f ≡ BookFault.Memory) }
 {
     let write = prepared_write(alloc, index, limit, entry)?;
     if pending.push(write).is_err() {

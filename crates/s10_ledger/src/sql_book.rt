@@ -81,7 +81,7 @@ impl<S: Alter> SqlBook<S> {
     ghost use Rattle.s10_ledger.specs.Ledger.{history_of, committed_of, MayCreate, MayFindAlso};
     ghost use Rattle.s10_statements.specs.ConnectionState.{IsQuiescent, WasSound};
     ghost use Rattle.s10_statements.specs.Creating.{HasOneOfTheNames, IsCreateRefusal};
-    ghost use Rattle.s10_schema.specs.Schema.{ledger_schema};
+    ghost use Rattle.s10_schema.specs.Schema.{no_schema, ledger_schema};
 
     /// Creates an empty ledger with these settings in an empty database, in one transaction.
     ///
@@ -126,6 +126,11 @@ impl<S: Alter> SqlBook<S> {
         ensures kept { IfErr result (λ r. HasCleanDisk (state S.Store r.connection)
             → IsTrue (state S.Store r.connection).is_open → (state S.Store r.connection).now
             ≡ (state S.Store conn).now) }
+        ensures not_empty { HasOneOfTheNames (state S.Store conn).now.schema
+            → IfErr result (λ r. r.fault ≡ OpenFault.NotEmpty) }
+        ensures other_tables { ¬ HasOneOfTheNames (state S.Store conn).now.schema
+            → (state S.Store conn).now.schema ≢ no_schema
+            → IfErr result (λ r. r.fault ≡ OpenFault.Store) }
     {
         let mut connection = conn;
         if let Some(fault) = refusal_of(&connection) {
@@ -216,6 +221,7 @@ impl<S: Alter> SqlBook<S> {
             ≡ committed_of S.Store self) }
         ensures same { self.pending ≡ [] → result.connection ≡ self.conn }
         ensures none_pending { self.pending ≡ [] → OnErr result.committed ⊥ }
+        ensures fault { result.committed ≢ Err Full }
         ensures stop { MayFindAlso S.Store self (record self { conn = result.connection })
             (history_of S.Store self) }
     {
@@ -304,7 +310,7 @@ fn counted<T>(faults: &mut Faults, answer: Result<T, BookFault>) -> Result<T, Bo
 }
 
 impl<S: Alter> SqlBook<S> {
-    ghost use Rattle.std.specs.Prelude.{◌++◌, ◌∷◌, ◌<◌, length, IfOk, IsTrue, OnErr, OnOk};
+    ghost use Rattle.std.specs.Prelude.{◌++◌, ◌∷◌, ◌<◌, length, IfOk, IfErr, IsTrue, OnErr, OnOk};
     ghost use Rattle.std.specs.Prelude.{Contains};
     ghost use Rattle.s10_history.specs.History.{ranges_of};
     ghost use Rattle.s10_history.specs.Usage.{usage_of};
@@ -312,6 +318,7 @@ impl<S: Alter> SqlBook<S> {
     ghost use Rattle.s10_book.specs.Book.{Grows};
     ghost use Rattle.s10_ledger.specs.Ledger.{history_of, committed_of, IsOverCleanDisk};
     ghost use Rattle.s10_ledger.specs.Ledger.{LeavesUnchanged, IsOpenIfClean, MayFindAlso};
+    ghost use Rattle.s10_ledger.specs.Ledger.{HasFailed};
 
     // Asks the connection if it did not answer the last statement, so that no statement runs and no
     // look-up answers over a closed connection.
@@ -324,6 +331,8 @@ impl<S: Alter> SqlBook<S> {
         ensures same_pending { self.new.pending ≡ self.old.pending }
         ensures same { IsHonest S.Store self.new → (state S.Store self.new.conn).now
             ≡ (state S.Store self.old.conn).now }
+        ensures store { IsHonest S.Store self.old → IsOverCleanDisk S.Store self.new
+            → result ≡ Err BookFault.Store → HasFailed S.Store self.old.conn self.new.conn }
     {
         if self.answered {
             return Ok(());
@@ -376,6 +385,7 @@ impl<S: Alter> SqlBook<S> {
 
     // Commits the pending calls, if there are any.
     fn commit_rest(&mut self) -> Result<(), BookFault>
+        ensures faults { CountsResult result self.old.faults self.new.faults }
         ensures unchanged { LeavesUnchanged S.Store self.old self.new }
         ensures same_terms { self.new.terms ≡ self.old.terms }
         ensures done { IsHonest S.Store self.new
@@ -401,6 +411,9 @@ impl<S: Alter> SqlBook<S> {
         ensures uncommitted { IsHonest S.Store self.new → length self.old.pending < MAX_PENDING
             → ((state S.Store self.new.conn).now ≡ (state S.Store self.old.conn).now)
             × (self.new.pending ≡ self.old.pending) }
+        ensures store { IsHonest S.Store self.old → IsOverCleanDisk S.Store self.new
+            → length self.old.pending < MAX_PENDING → result ≡ Err BookFault.Store
+            → HasFailed S.Store self.old.conn self.new.conn }
     {
         if self.pending.len() >= MAX_PENDING {
             return self.commit_all();
@@ -421,6 +434,7 @@ impl<S: Alter> SqlBook<S> {
             → IsTrue (state S.Store self.new.conn).is_open → IsHonest S.Store self.new }
         ensures ok { OnOk result (self.new.pending ≡ self.old.pending ++ entry.now ∷ []) }
         ensures err { OnErr result (self.new.pending ≡ self.old.pending) }
+        ensures memory { IsHonest S.Store self.old → IfErr result (λ f. f ≡ BookFault.Memory) }
     {
         let limit = self.settings.limit();
         let held = append_pending(self.alloc, &mut self.index, &mut self.pending, limit, entry);
@@ -493,6 +507,7 @@ impl<S: Alter> GroupCommit for SqlBook<S> {
     ghost use Rattle.s10_book.specs.Rules.{MayFollow};
     ghost use Rattle.s10_book.specs.Book.{Grows, FindsAfter, IsPerhapsWith};
     ghost use Rattle.s10_ledger.specs.Ledger.{history_of, committed_of, IsOverCleanDisk, MayFind};
+    ghost use Rattle.s10_ledger.specs.Ledger.{HasFailed};
 
     /// Appends the call to the pending ones, in the process. If `MAX_PENDING` calls are pending,
     /// commits these first. If fewer are pending, the database is unchanged.
@@ -516,6 +531,9 @@ impl<S: Alter> GroupCommit for SqlBook<S> {
         ensures uncommitted { IsHonest S.Store self.new → length self.old.pending < MAX_PENDING
             → OnOk result (((state S.Store self.new.conn).now ≡ (state S.Store self.old.conn).now)
             × (self.new.pending ≡ self.old.pending ++ entry ∷ [])) }
+        ensures store { IsHonest S.Store self.old → IsOverCleanDisk S.Store self.new
+            → length self.old.pending < MAX_PENDING → result ≡ Err BookFault.Store
+            → HasFailed S.Store self.old.conn self.new.conn }
     {
         if let Err(fault) = self.make_room() {
             return Err(fault);

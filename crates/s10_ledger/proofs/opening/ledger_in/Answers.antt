@@ -289,3 +289,23 @@ returns-clause-crash g c =
     completes g.S.Store c.args.conn.now c.replay_tables.new.conn c.complete.new.conn c.in-Some.form
     declared c.requires.settled c.replay_tables.ensures.leaves c.replay_tables.ensures.spares
     c.complete.ensures.was c.complete.ensures.crash
+
+pub returns-in_default-clause-no_tables : goal.returns-in_default-clause-no_tables
+returns-in_default-clause-no_tables g c = λ none. refl
+
+pub returns-in_err-found-clause-no_tables : goal.returns-in_err-found-clause-no_tables
+returns-in_err-found-clause-no_tables g c = λ none. absurd (none (
+  c.in-Some.form,
+  subst (λ (s : Schema). IsOfTableLayout c.in-Some.form s) c.schema.ensures.value
+      c.in-Some.ensures.some,
+))
+
+pub returns-in_err-complete-clause-no_tables : goal.returns-in_err-complete-clause-no_tables
+returns-in_err-complete-clause-no_tables g c = λ none. absurd (none (
+  c.in-Some.form,
+  subst (λ (s : Schema). IsOfTableLayout c.in-Some.form s) c.schema.ensures.value
+      c.in-Some.ensures.some,
+))
+
+pub returns-clause-no_tables : goal.returns-clause-no_tables
+returns-clause-no_tables g c = λ none. tt

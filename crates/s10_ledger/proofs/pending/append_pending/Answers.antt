@@ -1,5 +1,6 @@
 use Rattle.std.proofs.Common.{rules, ◌∷◌, []}
-use Rattle.std.proofs.Common.{ap, length, length-append, arith, sym}
+use Rattle.std.proofs.Common.{ap, length, length-append, arith, sym, refl}
+use Rattle.std.proofs.lemmas.Result.{err_from_is_err_and}
 use Rattle.s10_ledger.proofs.PendingLemmas.{pushed, not_pushed}
 use Rattle.s10_ledger.proofs.pending.append_pending.Goals as goal
 
@@ -35,3 +36,14 @@ returns-then-is_err-clause-left c = not_pushed c.push.result c.push.new.self.ite
 
 pub follow-requires-clause-few : goal.follow-requires-clause-few
 follow-requires-clause-few c = omega (arith, c.in_ok-write.ensures.few)
+
+pub returns-in_err-write-clause-memory : goal.returns-in_err-write-clause-memory
+returns-in_err-write-clause-memory c = λ h t legal follows indexed within.
+    let p = err_from_is_err_and c.from_residual.result c.from_residual.ensures.1 in
+    rw (p.1, p.2) (c.in_err-write.ensures.memory h t legal follows indexed within)
+
+pub returns-then-is_err-clause-memory : goal.returns-then-is_err-clause-memory
+returns-then-is_err-clause-memory c = λ h t legal follows indexed within. refl
+
+pub returns-clause-memory : goal.returns-clause-memory
+returns-clause-memory c = λ h t legal follows indexed within. tt

@@ -1,5 +1,5 @@
 use Rattle.std.proofs.Common.{◌≡◌, ◌∙◌, ◌++◌, ◌∷◌, [], List, Result, Ok, Err, IfOk, OnOk, All, ap}
-use Rattle.std.proofs.Common.{false, sym, length, arith}
+use Rattle.std.proofs.Common.{false, refl, sym, length, arith}
 use Rattle.std.specs.Result.{is_err}
 use Rattle.s10_history.specs.declared.entry.Entry.{Entry}
 use Rattle.s10_history.specs.Settings.{Terms}
@@ -58,3 +58,16 @@ overflow_cast-held c = omega arith
 
 pub overflow_add-held : goal.overflow_add-held
 overflow_add-held c = omega arith
+
+pub returns-then-held-limit-clause-memory : goal.returns-then-held-limit-clause-memory
+returns-then-held-limit-clause-memory c = λ h t legal follows indexed within.
+    absurd (omega (arith, ap length (c.calls.ensures ∙ indexed.calls), follows.room, within))
+
+pub returns-then-is_err-clause-memory : goal.returns-then-is_err-clause-memory
+returns-then-is_err-clause-memory c = λ h t legal follows indexed within. refl
+
+pub returns-clause-memory : goal.returns-clause-memory
+returns-clause-memory c = λ h t legal follows indexed within.
+    c.call_write.ensures.done h t legal follows
+    (omega (arith, ap length (c.calls.ensures ∙ indexed.calls)))
+    (c.reserve.ensures.same h indexed)

@@ -46,3 +46,10 @@ pub returns-clause-honest : goal.returns-clause-honest
 returns-clause-honest g c = λ clean opened. sound_is_honest g.S.Store c.self.inside.conn
     c.self.inside.settings c.append_pending-held.new.index c.append_pending-held.new.pending.items
     c.self.inside.answered c.counted.new.faults (invariant_of-self g c) clean opened
+
+pub returns-clause-memory : goal.returns-clause-memory
+returns-clause-memory g c = rw (c.counted.ensures.same, ← c.self.view_is) (λ honest.
+    let followed = c.self.invariant.followed honest.clean honest.is_open in
+    c.append_pending-held.ensures.memory _ c.self.inside.settings followed.legal
+    ((rw (← c.self.view_is) at c.requires.follows) honest) followed.indexed
+    (omega (arith, c.limit-limit.ensures.value)))

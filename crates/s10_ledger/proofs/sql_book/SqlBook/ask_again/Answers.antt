@@ -1,9 +1,10 @@
 use Rattle.std.proofs.Common.{rules, length}
+use Rattle.sqlite.specs.Held.{state}
 use Rattle.s10_history.specs.History.{day_of}
 use Rattle.s10_book.proofs.Calls.{Unchanged-refl}
 use Rattle.s10_ledger.specs.Ledger.{Ledger}
 use Rattle.s10_ledger.specs.Pending.{committed_among}
-use Rattle.s10_ledger.proofs.BookLemmas.{same_tables, if_answered, read_keeps}
+use Rattle.s10_ledger.proofs.BookLemmas.{same_tables, if_answered, read_keeps, closed_is}
 use Rattle.s10_ledger.proofs.PendingLemmas.{ledger_of, sound_after_read, sound_is_honest}
 use Rattle.s10_ledger.proofs.PendingLemmas.{honest_if_ok}
 use Rattle.s10_ledger.proofs.sql_book.SqlBook.ask_again.Goals as goal
@@ -45,3 +46,11 @@ returns-then-self-clause-opened g c = rw (← c.self.view_is) (λ clean. sound_i
     c.self.inside.conn c.self.inside.settings c.self.inside.index c.self.inside.pending.items
     c.self.inside.answered c.self.inside.faults c.self.invariant clean
     (c.self.invariant.opened (search rules) clean))
+
+pub returns-clause-store : goal.returns-clause-store
+returns-clause-store g c = rw (c.counted.ensures.same, ← c.self.view_is) (λ honest clean is.
+    let ledger = closed_is (state g.S.Store c.self.inside.conn).now _ _ _ honest.ledger in
+    c.ask-asked.ensures.store clean honest.is_open ledger.ledger is)
+
+pub returns-then-self-clause-store : goal.returns-then-self-clause-store
+returns-then-self-clause-store g c = λ honest clean is. absurd cc

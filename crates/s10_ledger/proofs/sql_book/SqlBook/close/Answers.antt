@@ -3,6 +3,7 @@ use Rattle.sqlite.specs.Held.{state}
 use Rattle.s10_history.specs.declared.entry.Entry.{Entry}
 use Rattle.s10_ledger.specs.Ledger.{history_of}
 use Rattle.s10_ledger.proofs.BookLemmas.{ledger_again, finds_the_same}
+use Rattle.s10_ledger.proofs.FaultLemmas.{not_full}
 use Rattle.s10_ledger.proofs.sql_book.SqlBook.close.Goals as goal
 
 then_same : {T E : Type 0} (r : Result T E) (a b c : List Entry) → OnOk r (a ≡ b) → b ≡ c
@@ -42,3 +43,7 @@ returns-clause-stop g c = finds_the_same g.S.Store c.args.self c.commit_rest-com
     (record c.args.self { conn = c.into_connection-connection.result })
     (λ calls. calls ≡ history_of g.S.Store c.args.self) c.into_connection-connection.ensures.same
     (sym c.commit_rest-committed.ensures.same_terms) c.commit_rest-committed.ensures.unchanged.stop
+
+pub returns-clause-fault : goal.returns-clause-fault
+returns-clause-fault g c = not_full c.commit_rest-committed.result _ _
+    c.commit_rest-committed.ensures.faults

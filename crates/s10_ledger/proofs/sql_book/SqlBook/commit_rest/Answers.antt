@@ -1,4 +1,4 @@
-use Rattle.std.proofs.Common.{◌≡◌, [], sym, arith}
+use Rattle.std.proofs.Common.{◌≡◌, [], refl, sym, arith}
 use Rattle.std.proofs.lemmas.List.{append-nil}
 use Rattle.std.specs.Prelude.{vec_len}
 use Rattle.s10_book.proofs.Calls.{Unchanged-refl}
@@ -38,3 +38,9 @@ returns-then-not-is_empty-clause-none_pending g c =
     λ none. absurd (some_calls c.self.inside.pending.items
     (vec_len c.self.inside.pending) (cc)
     (omega (arith, c.self.inside.pending.ok.0)) (rw (← c.self.view_is) at none))
+
+pub returns-clause-faults : goal.returns-clause-faults
+returns-clause-faults g c = refl
+
+pub returns-then-not-is_empty-clause-faults : goal.returns-then-not-is_empty-clause-faults
+returns-then-not-is_empty-clause-faults g c = c.commit_all.ensures.faults

@@ -14,6 +14,7 @@ use Rattle.s10_statements.proofs.CrashLemmas.{either}
 use Rattle.s10_statements.specs.Creating.{HasOneOfTheNames, IsCreateRefusal}
 use Rattle.s10_ledger.specs.Ledger.{IsLedger, history_in}
 use Rattle.s10_ledger.proofs.NewLedger.{no_history, new_ledger}
+use Rattle.s10_ledger.proofs.FaultLemmas.{named, unnamed}
 use Rattle.s10_ledger.proofs.sql_book.SqlBook.create.Goals as goal
 
 not_made : (s : Schema) (f : OpenFault) → ¬ HasOneOfTheNames s → (f ≡ Memory) ⊎ (f ≡ Store)
@@ -205,3 +206,26 @@ returns-in-Err-clause-crash_refused g c = λ clean db left.
 
 pub returns-in-Some-clause-crash_refused : goal.returns-in-Some-clause-crash_refused
 returns-in-Some-clause-crash_refused g c = λ clean db left. inl left
+
+pub returns-in-Some-clause-not_empty : goal.returns-in-Some-clause-not_empty
+returns-in-Some-clause-not_empty g c = named (state g.S.Store c.args.conn).now.schema
+    c.in-Some.fault c.in-Some.ensures.refusal c.in-Some.ensures.fault
+
+pub returns-in-Some-clause-other_tables : goal.returns-in-Some-clause-other_tables
+returns-in-Some-clause-other_tables g c = λ none some. unnamed
+    (state g.S.Store c.args.conn).now.schema c.in-Some.fault c.in-Some.ensures.refusal
+    c.in-Some.ensures.fault none
+
+pub returns-in-Err-clause-not_empty : goal.returns-in-Err-clause-not_empty
+returns-in-Err-clause-not_empty g c = λ one.
+    absurd (c.refusal_of.ensures.fresh c.in_default.is one)
+
+pub returns-in-Err-clause-other_tables : goal.returns-in-Err-clause-other_tables
+returns-in-Err-clause-other_tables g c = λ none some.
+    absurd (some (c.refusal_of.ensures.none c.in_default.is))
+
+pub returns-clause-not_empty : goal.returns-clause-not_empty
+returns-clause-not_empty g c = λ one. tt
+
+pub returns-clause-other_tables : goal.returns-clause-other_tables
+returns-clause-other_tables g c = λ none some. tt

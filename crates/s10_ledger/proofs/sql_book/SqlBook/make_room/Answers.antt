@@ -25,3 +25,10 @@ returns-clause-unchanged g c = c.ask_again.ensures.unchanged
 
 pub returns-clause-opened : goal.returns-clause-opened
 returns-clause-opened g c = c.ask_again.ensures.opened
+
+pub returns-then-len-ge-MAX_PENDING-clause-store : goal.returns-then-len-ge-MAX_PENDING-clause-store
+returns-then-len-ge-MAX_PENDING-clause-store g c = λ honest clean few is.
+    absurd (grind (arith, common_steps))
+
+pub returns-clause-store : goal.returns-clause-store
+returns-clause-store g c = λ honest clean few is. c.ask_again.ensures.store honest clean is

@@ -95,3 +95,9 @@ returns-in-Ok-clause-crash g c = rw c.over.ensures c.ledger_in.ensures.crash
 
 pub returns-in-Err-clause-crash_refused : goal.returns-in-Err-clause-crash_refused
 returns-in-Err-clause-crash_refused g c = c.ledger_in.ensures.crash
+
+pub returns-in-Err-clause-no_tables : goal.returns-in-Err-clause-no_tables
+returns-in-Err-clause-no_tables g c = λ none. c.in-Err.ensures.no_tables none
+
+pub returns-in-Ok-clause-no_tables : goal.returns-in-Ok-clause-no_tables
+returns-in-Ok-clause-no_tables g c = λ none. tt

@@ -7,8 +7,9 @@ use Rattle.sqlite.specs.Held.{Held, state}
 use Rattle.s10_history.specs.declared.entry.Entry.{Entry}
 use Rattle.s10_book.specs.Book.{IsPerhapsWith}
 use Rattle.s10_book.proofs.Calls.{FindsAfter-refl, finds_one_more}
-use Rattle.s10_ledger.specs.Ledger.{Ledger, history_in, history_of}
+use Rattle.s10_ledger.specs.Ledger.{Ledger, history_in, history_of, IsOverCleanDisk}
 use Rattle.s10_ledger.proofs.BookLemmas.{follows_still, finds_the_same}
+use Rattle.s10_ledger.proofs.FaultLemmas.{not_store}
 use Rattle.s10_ledger.proofs.sql_book.SqlBookGroupCommit.append.Goals as goal
 
 given : {T E : Type 0} (r : Result T E) (P : Type 0) → P → OnOk r P
@@ -125,3 +126,15 @@ returns-clause-uncommitted g c = λ honest few.
     held_alone g.S.Store c.args.self.now c.make_room.new.self c.append_call.new.self c.args.entry
     c.append_call.ensures.same_conn c.append_call.result c.append_call.ensures.ok
     (c.in_default.ensures.uncommitted (c.append_call.ensures.was_honest honest) few)
+
+pub returns-in-Err-clause-store : goal.returns-in-Err-clause-store
+returns-in-Err-clause-store g c = λ honest clean few is.
+    c.make_room.ensures.store honest clean few (c.in-Err.is ∙ is)
+
+pub returns-clause-store : goal.returns-clause-store
+returns-clause-store g c = λ honest clean few is.
+    let mid = c.make_room.new.self in
+    let was : IsOverCleanDisk g.S.Store mid =
+    subst (λ h. HasCleanDisk (state g.S.Store h)) c.append_call.ensures.same_conn clean in
+    absurd (not_store c.append_call.result
+    (c.append_call.ensures.memory (c.in_default.ensures.opened was)) is)
