@@ -22,13 +22,13 @@ RunsWords words input old new status = (rest : Option (List ℕ)) × (printed : 
     × RunsLine words input rest old printed status × Keeps printed new
 
 module _ (S : RattleType) (first : Ghosts S.Denot) {C : Type 0} (gives : C → Option ℕ → C → Type 0)
-    where
-  -- The job that the words ask for was run, and the exit status is that of its result. The output
-  -- was flushed.
-  abbrev pub RunsJob : List Text → C → C → Option (List ℕ) → Option (List ℕ) → ℕ
-      → Option (ClosedFiles S first) → Option BoundLink → Option LoopResources → Type 0
-  RunsJob words begun ended old new status files link looped =
-      (job : Job) × (done : Result JobStatus WriteFault) × (printed : Option (List ℕ))
-      × AsksInWords words job
-      × HasEnded S first gives job begun ended old printed done files link looped
-      × Keeps printed new × (status ≡ exit_status done)
+  where
+    -- The job that the words ask for was run, and the exit status is that of its result. The output
+    -- was flushed.
+    abbrev pub RunsJob : List Text → C → C → Option (List ℕ) → Option (List ℕ) → ℕ
+        → Option (ClosedFiles S first) → Option BoundLink → Option LoopResources → Type 0
+    RunsJob words begun ended old new status files link looped =
+        (job : Job) × (done : Result JobStatus WriteFault) × (printed : Option (List ℕ))
+        × AsksInWords words job
+        × HasEnded S first gives job begun ended old printed done files link looped
+        × Keeps printed new × (status ≡ exit_status done)

@@ -59,8 +59,7 @@ pub fn run_ledger_job<A: Alter + Drop, D: Days, K: Observer, W: Write>(
         × IfOk done (λ status. (status ≡ audit_status found)
         × Appends (W.contents out.old) (W.contents out.new) (audit_line found))
         × IsRolledBack (A.Store.view left.store) (A.Store.view store)
-        × IsQuiet A.Store.view A.Store.faults A.Store.recovers A.Store.is_shielded left.store store
-        }
+        × IsQuiet A.Store.view A.Store.faults A.Store.recovers A.Store.is_shielded left.store store }
 {
     match task {
         LedgerJob::BookJob(work) => match run_book_job(rt, connection, work, days, observer, out) {

@@ -110,12 +110,7 @@ fn answer_of<W: Write>(
 
 /// Returns whether a question ends with this status and prints this line, and fails if the writer
 /// accepts nothing.
-fn is_reported(
-    rt: &HostRuntime,
-    question: Question<'_>,
-    status: JobStatus,
-    line: &str,
-) -> bool {
+fn is_reported(rt: &HostRuntime, question: Question<'_>, status: JobStatus, line: &str) -> bool {
     let mut out = Vec::new(rt.alloc());
     answer_of(rt, question, &mut out) == Ok(status)
         && out.as_slice() == line.as_bytes()

@@ -64,7 +64,9 @@ const REPORTS: &[(bool, &str)] = &[(false, RANGES), (true, ISSUES)];
 #[test]
 fn reports_are_written_whole(rt: HostRuntime) {
     for (is_of_issues, text) in REPORTS {
-        let report = Report::new(&mut ClockDays { clock: &rt }, *is_of_issues, Some(20_000)).expect(&rt, "a day");
+        let report = Report::new(&mut ClockDays { clock: &rt }, *is_of_issues, Some(20_000)).expect(
+            &rt, "a day",
+        );
         is_done(&rt, one_issue(rt.alloc()), report, text);
     }
 }

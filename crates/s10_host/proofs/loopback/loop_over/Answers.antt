@@ -16,6 +16,8 @@ returns g c =
       ap (λ (l : NearEnds g.row.B.Denot BoundLink BoundLink). l.far) c.link.view_is,
       ap (λ (l : NearEnds g.row.B.Denot BoundLink BoundLink). l.near) c.link.view_is,
       c.make_calls-asked.ensures.led,
-      rw (ap (λ (l : NearEnds g.row.B.Denot BoundLink BoundLink). l.near) c.link.view_is,
-          ← c.local-to.ensures) c.make_calls-asked.ensures.asked,
+      rw (
+        ap (λ (l : NearEnds g.row.B.Denot BoundLink BoundLink). l.near) c.link.view_is,
+        ← c.local-to.ensures,
+      ) c.make_calls-asked.ensures.asked,
     )
