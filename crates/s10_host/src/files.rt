@@ -218,7 +218,8 @@ pub fn close_refused<D: Disk + Drop>(connection: Connection<FileStore<D>>) -> Op
 {
     // Brings into scope that a connection in no transaction has nothing to commit.
     prove!(connection.is_autocommit());
-    match connection.close_files() {
+    let closed = connection.close_files();
+    match closed {
         Ok(files) => Some(files),
         Err((_, store)) => {
             drop(store.close());
