@@ -22,7 +22,8 @@ enum FileKind {
     Other,
 }
 
-/// Returns why an existing file is not a ledger, if its first bytes show it.
+/// Returns why an existing file is not a ledger, if its first bytes show it. The reason is printed
+/// to standard error.
 ///
 /// Returns `None` if a log is beside the file, since that may hold its first pages, or if the bytes
 /// cannot be read.
@@ -30,7 +31,7 @@ pub(crate) fn fault_of_existing(rt: &HostRuntime, path: &str) -> Option<OpenFaul
     ensures { IfSome result (IsAbsenceOr IsFileFault) }
 {
     match file_kind_of(rt, path) {
-        Ok(FileKind::Empty) => Some(OpenFault::NotALedger),
+        Ok(FileKind::Empty) => Some(fault_of_empty(rt, path)),
         Ok(FileKind::Other) => Some(fault_of_not_database(rt, path)),
         Ok(FileKind::Database) | Err(_) => None,
     }
@@ -45,6 +46,14 @@ pub(crate) fn fault_of_new(rt: &HostRuntime, path: &str) -> Option<OpenFault>
         Ok(FileKind::Other) => Some(fault_of_not_database(rt, path)),
         Ok(FileKind::Empty | FileKind::Database) | Err(_) => None,
     }
+}
+
+// Prints to standard error that the file is empty.
+fn fault_of_empty(rt: &HostRuntime, path: &str) -> OpenFault
+    ensures { result ≡ OpenFault.NotALedger }
+{
+    let _ = eprintln!(rt; "cannot open {path}: it is empty");
+    OpenFault::NotALedger
 }
 
 // Prints to standard error that the file holds something else.

@@ -12,6 +12,7 @@ use sqlite::{Connection, Error, ErrorCode, FileFrom, FileStore, Files, Start};
 use sqlite_disk::Disk;
 use std::fs::OpenOptions;
 use std::io::ErrorKind;
+use std::os::unix::fs::OpenOptionsExt;
 use std::{fs, io};
 
 /// The size in megabytes from which an opening prints the file's size.
@@ -65,10 +66,12 @@ fn fault_of_closing<D: Disk + Drop>(
 ///
 /// # Errors
 ///
+/// The reason is printed to standard error.
+///
 /// - `NotALedger` if the file does not exist, or is empty and has no log or an empty one.
 /// - `Memory` if out of memory.
 /// - `Store` if the file is not a database, its folder does not exist, or the file cannot be
-///   opened. The reason is printed to standard error.
+///   opened.
 pub fn connect_to_ledger<S: Start>(
     rt: &HostRuntime,
     path: &str,
@@ -85,12 +88,12 @@ pub fn connect_to_ledger<S: Start>(
             Some(fault) => Err(fault),
         },
         Ok(false) => Err(fault_of_missing(rt, path)),
-        Err(cause) => Err(fault_of_look(rt, path, &cause)),
+        Err(cause) => Err(fault_of_system(rt, path, &cause)),
     }
 }
 
-// Prints to standard error why the file cannot be looked up.
-fn fault_of_look(rt: &HostRuntime, path: &str, cause: &io::Error) -> OpenFault
+// Prints to standard error why the system cannot look up or create the file.
+fn fault_of_system(rt: &HostRuntime, path: &str, cause: &io::Error) -> OpenFault
     ensures { result ≡ OpenFault.Store }
 {
     let _ = eprintln!(rt; "cannot open {path}: {cause}");
@@ -98,7 +101,7 @@ fn fault_of_look(rt: &HostRuntime, path: &str, cause: &io::Error) -> OpenFault
 }
 
 /// Opens the file of a new ledger as a database, or creates it. A file that holds anything but a
-/// database is not opened.
+/// database is not opened. No file is removed.
 ///
 /// # Errors
 ///
@@ -115,25 +118,48 @@ pub fn connect_to_new<S: Start>(
     ensures plain { IfOk result (IsPlain (image_at S.Start)) }
     ensures refused { IfErr result IsFileFault }
 {
-    match fault_of_new(rt, path) {
-        None => connect(rt, path, start),
-        Some(fault) => Err(fault),
+    if let Some(fault) = fault_of_new(rt, path) {
+        return Err(fault);
+    }
+    match create_missing(rt, path) {
+        Ok(()) => connect(rt, path, start),
+        Err(cause) => Err(fault_of_system(rt, path, &cause)),
     }
 }
 
-// Returns why a missing file cannot be opened: `Store` if its folder is missing too, otherwise
-// `NotALedger`.
+// Creates the file if it is missing, with the mode that the store would give it. The store's own
+// error would not have the system's words.
+fn create_missing(rt: &HostRuntime, path: &str) -> io::Result<()> {
+    let mut options = OpenOptions::new();
+    options.read(true).write(true).create_new(true).mode(0o644);
+    match options.open(rt, path) {
+        Err(cause) if cause.kind() != ErrorKind::AlreadyExists => Err(cause),
+        _ => Ok(()),
+    }
+}
+
+// Prints to standard error why a missing file cannot be opened. Returns `Store` if its folder is
+// missing too, otherwise `NotALedger`.
 fn fault_of_missing(rt: &HostRuntime, path: &str) -> OpenFault
     ensures { IsAbsenceOr IsFileFault result }
 {
+    let absent = io::Error::from_raw_os_error(ENOENT);
     match path.rsplit_once('/') {
-        None | Some(("", _)) => OpenFault::NotALedger,
+        None | Some(("", _)) => fault_of_absent(rt, path, &absent),
         Some((folder, _)) => match fs::exists(rt, folder) {
-            Ok(true) => OpenFault::NotALedger,
-            Ok(false) => fault_of_look(rt, path, &io::Error::from_raw_os_error(ENOENT)),
-            Err(cause) => fault_of_look(rt, path, &cause),
+            Ok(true) => fault_of_absent(rt, path, &absent),
+            Ok(false) => fault_of_system(rt, path, &absent),
+            Err(cause) => fault_of_system(rt, path, &cause),
         },
     }
+}
+
+// Prints to standard error that the file is missing, in a folder that is there.
+fn fault_of_absent(rt: &HostRuntime, path: &str, absent: &io::Error) -> OpenFault
+    ensures { result ≡ OpenFault.NotALedger }
+{
+    let _ = fault_of_system(rt, path, absent);
+    OpenFault::NotALedger
 }
 
 // Opens a file as a database, or creates it.
@@ -178,24 +204,12 @@ fn eprint_cause(rt: &HostRuntime, path: &str, error: &Error) {
     };
 }
 
-// Returns the system's error of opening the file again, or of creating it if it does not exist.
-// Removes a file that this created.
+// Returns the system's error of opening the file again. Creates and removes nothing: the name may
+// have become another process's ledger.
 fn cause_of(rt: &HostRuntime, path: &str) -> Option<io::Error> {
     let mut options = OpenOptions::new();
     options.read(true).write(true);
-    let absent = match options.open(rt, path) {
-        Ok(_) => return None,
-        Err(cause) if cause.kind() == ErrorKind::NotFound => cause,
-        Err(cause) => return Some(cause),
-    };
-    match options.create_new(true).open(rt, path) {
-        Ok(_) => {
-            let _ = fs::remove_file(rt, path);
-            Some(absent)
-        }
-        Err(cause) if cause.kind() == ErrorKind::AlreadyExists => Some(absent),
-        Err(cause) => Some(cause),
-    }
+    options.open(rt, path).err()
 }
 
 fn fault_of_opening(error: &Error) -> OpenFault
