@@ -7,6 +7,7 @@ ghost use Rattle.s10_cli.specs.CommandLine.{IsDone, IsSubcommandDone, IsFaultPri
 ghost use Rattle.s10_cli.specs.CommandLine.{exit_status, word};
 
 use crate::buffered::flush_buffer;
+use crate::input::Input;
 use crate::option_values::{flag_of, settings_of, text_of};
 use clap::error::ErrorKind;
 use clap::{ArgMatches, Error};
@@ -54,7 +55,8 @@ fn status_of(done: Result<JobStatus, WriteFault>) -> u8
 
 /// Runs a command line over buffers, flushes them, and returns the exit status with the output.
 ///
-/// The status is `None` if the words ask for a job of the program.
+/// The status is `None` if the words ask for a job of the program. Standard error has the reason of
+/// each read of `input` that fails.
 ///
 /// # Errors
 ///
@@ -75,7 +77,8 @@ where
         × RunsLine (map S.text words.now) (I.remaining input) rest (O.contents output) printed
         ended.0 × Keeps printed (O.contents ended.1)) }
 {
-    let mut input = BufReader::new(rt.alloc(), input)?;
+    let explained = Input::new(rt, input);
+    let mut input = BufReader::new(rt.alloc(), explained)?;
     let mut output = BufWriter::new(rt.alloc(), output)?;
     let status = run_line(rt, words, &mut input, &mut output);
     Ok((status, flush_buffer(output)?))

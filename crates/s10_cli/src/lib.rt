@@ -8,6 +8,7 @@ mod command_line;
 mod create_job;
 mod draw_job;
 mod grant_job;
+mod input;
 mod job_words;
 mod loop_job;
 mod option_values;
