@@ -1,4 +1,4 @@
-use Rattle.std.proofs.Common.{trans, cong}
+use Rattle.std.proofs.Common.{◌∙◌, ap}
 use Rattle.s10_cli.proofs.OptionLemmas.{new_reader, new_writer, runs_from}
 use Rattle.s10_cli.proofs.command_line.run_buffered.Goals as goal
 
@@ -7,9 +7,9 @@ returns g c = (
   _,
   _,
   runs_from _ _ _ _ _ _ _ _
-      (trans (new_reader _ c.in_ok-input.input c.new-explained.result c.in_ok-input.ensures.inner
-      c.in_ok-input.ensures.empty c.in_ok-input.ensures.capacity)
-      (cong g.I.Read.remaining c.new-explained.ensures))
+      (new_reader (λ i. g.I.Read.remaining i.reader) c.in_ok-input.input c.new-explained.result
+      c.in_ok-input.ensures.inner c.in_ok-input.ensures.empty c.in_ok-input.ensures.capacity
+      ∙ ap g.I.Read.remaining c.new-explained.ensures)
       (new_writer g.O.Write.contents c.in_ok-output.output c.args.output
       c.in_ok-output.ensures.inner c.in_ok-output.ensures.empty)
       c.run_line-status.ensures,
