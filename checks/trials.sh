@@ -86,7 +86,7 @@ changes() {
 }
 
 # Runs a command, and compares its status, its lines, its words on standard error and the changes with those given. Several lines
-# are joined by `|`. `as` starts it as another user, and `sink` is where its output goes.
+# are joined by `|`. `as` starts it as another user, and `sink` is where its output goes; with `folder` its input is a folder.
 as=
 sink=kept
 tries() { # STATUS LINE WORDS CHANGES COMMAND..
@@ -98,6 +98,7 @@ tries() { # STATUS LINE WORDS CHANGES COMMAND..
         kept) $as "$s10" "$@" >../out 2>../err || got=$? ;;
         closed) : >../out && $as "$s10" "$@" 2>../err >&- || got=$? ;;
         full) : >../out && $as "$s10" "$@" >/dev/full 2>../err || got=$? ;;
+        folder) $as "$s10" "$@" <. >../out 2>../err || got=$? ;;
     esac </dev/null
     state >../after
     found=$(printf '%s; %s; %s; %s' "$got" "$(paste -sd'|' ../out)" "$(paste -sd'|' ../err)" "$(changes)")
@@ -174,9 +175,9 @@ head -c 8192 /dev/zero >zeros
 mkdir folder
 mkfifo pipe
 ln -s nothing dangling
-refused missing 'ledger not-a-ledger' '' ''
-refused empty 'ledger not-a-ledger' '' ''
-refused dangling 'ledger not-a-ledger' '' ''
+refused missing 'ledger not-a-ledger' 'cannot open missing: No such file or directory (os error 2)' ''
+refused empty 'ledger not-a-ledger' 'cannot open empty: it is empty' ''
+refused dangling 'ledger not-a-ledger' 'cannot open dangling: No such file or directory (os error 2)' ''
 refused nowhere/missing 'ledger store' 'cannot open nowhere/missing: No such file or directory (os error 2)' ''
 create 3 'ledger store' 'cannot open nowhere/missing: No such file or directory (os error 2)' '' nowhere/missing
 create 3 'ledger store' 'cannot open dangling: No such file or directory (os error 2)' '' dangling
@@ -284,7 +285,7 @@ create 0 created '' '+ledger 32768,+ledger-wal 41' ledger
 cp ledger alone
 sqlite3 notes "$note"
 mount -o remount,ro "$room/read-only"
-refused missing 'ledger not-a-ledger' '' ''
+refused missing 'ledger not-a-ledger' 'cannot open missing: No such file or directory (os error 2)' ''
 create 3 'ledger store' 'cannot open missing: Read-only file system (os error 30)' '' missing
 for file in ledger alone notes; do
     refused "$file" 'ledger store' "cannot open $file: Read-only file system (os error 30)" ''
@@ -298,12 +299,12 @@ create 0 created '' '+ledger 32768,+ledger-wal 41' ledger
 cp ledger alone
 : >empty
 fill
-create 3 'ledger store' 'cannot open new: database or disk is full' '+new 0,+new-wal 0' new
+create 3 'ledger store' 'cannot open new: database or disk is full' '+new 0' new
 create 3 'ledger store' 'cannot open empty: database or disk is full' '' empty
 refused alone 'ledger store' 'cannot open alone: database or disk is full' ''
 tries 0 'ledger ok 0' '' '~ledger-wal 41' audit --ledger ledger
 rm filler
-create 0 created '' '~new 32768,~new-wal 41' new
+create 0 created '' '+new-wal 41,~new 32768' new
 tries 0 'ledger ok 0' '' '+alone-wal 41' audit --ledger alone
 
 # A server whose disk fills withholds the reply to a call that it cannot write, and replies to repeats of committed calls. Once
@@ -366,6 +367,40 @@ unanswered() { # STATUS LINE WORDS
     tries "$1" "$2" "$3" '' withdraw --to "$address" --number 2 --range 1 --tries 1
 }
 unanswered 3 gave-up ''
+silent=$address
+address=127.0.0.1:0
+unanswered 3 'link send' "cannot ask $address: Invalid argument (os error 22)"
+address=$silent
+
+# The input of `replay` is a folder.
+group inputs
+sink=folder
+tries 3 input 'cannot read the input: Is a directory (os error 21)' '' replay
+sink=kept
+
+# Six datagrams that are no requests: standard error names the sender of the first at once, and that of the last as the server ends.
+group junk
+create 0 created '' '+ledger 32768,+ledger-wal 41' ledger
+"$s10" serve --ledger ledger --bind 127.0.0.1:0 --count 9 --day 20000 >../turns 2>../told </dev/null &
+server=$!
+await() { # WORDS
+    for _ in $(seq 600); do
+        if grep -q "$1" ../told; then return; fi
+        sleep 0.1
+    done
+    fail "standard error has no line: $1"
+}
+await '^serving on '
+port=$(sed -n 's/^serving on 127.0.0.1://p' ../told)
+bash -c "printf junk >/dev/udp/127.0.0.1/$port"
+await '^dropped from 127.0.0.1:[0-9]*$'
+for _ in 1 2 3 4 5; do bash -c "printf junk >/dev/udp/127.0.0.1/$port"; done
+wait "$server" || fail 'a server that gets junk'
+server=
+[ "$(grep -c '^dropped short$' ../turns)" = 6 ] || fail 'a line for each datagram'
+grep -q '^dropped 5 datagrams, the last from 127.0.0.1:[0-9]*$' ../told || fail 'the number of datagrams'
+[ "$(wc -l <../told)" = 4 ] || fail 'one line a minute'
+count=$((count + 1))
 
 group outputs
 create 0 created '' '+ledger 32768,+ledger-wal 41' ledger
@@ -385,7 +420,8 @@ for sink in closed full; do
     tries 3 '' "$why" '~ledger-wal 41' audit --ledger ledger
     tries 3 '' "$why" '~ledger-wal 41' report --ledger ledger --day 20000
     tries 3 '' "$why" "+$sink 32768,+$sink-wal 41" create --ledger "$sink" --interval 30 --limit 1000
-    tries 3 '' "opening missing|$why" '' serve --ledger missing --bind 127.0.0.1:0 --count 1
+    absent='cannot open missing: No such file or directory (os error 2)'
+    tries 3 '' "opening missing|$absent|$why" '' serve --ledger missing --bind 127.0.0.1:0 --count 1
     tries 3 '' "opening ledger|serving on *|$of_link" '~ledger-wal 41' serve --ledger ledger --bind 127.0.0.1:0 --count 1
     tries 3 '' "$of_link" '' loop --day 20000
     unanswered 3 '' "$of_link"
