@@ -247,19 +247,21 @@ faulted full
     assert!(rt; gives(rt.alloc(), settings, &mut input, Ok(4), text));
 }
 
-/// A reader that fails after its bytes, and is interrupted before each read.
+/// A reader that fails after its bytes, and is interrupted three times before each read.
 #[derive(Drop)]
 struct Failing<'a> {
     bytes: &'a [u8],
-    is_interrupted: bool,
+    /// How often it is interrupted before its next read.
+    interruptions: u32,
 }
 
 impl Read for Failing<'_> {
     fn read(&mut self, buf: &mut [u8]) -> io::Result<usize> {
-        self.is_interrupted = !self.is_interrupted;
-        if self.is_interrupted {
+        if self.interruptions > 0 {
+            self.interruptions -= 1;
             return Err(io::Error::from(ErrorKind::Interrupted));
         }
+        self.interruptions = 3;
         if self.bytes.is_empty() {
             return Err(io::Error::from(ErrorKind::Other));
         }
@@ -293,7 +295,7 @@ impl Write for Narrow {
 fn is_read_until(alloc: Global, bytes: &[u8], want: ReplayFault, text: &str) -> bool {
     let mut input = Failing {
         bytes,
-        is_interrupted: false,
+        interruptions: 3,
     };
     gives(alloc, settings(), &mut input, Err(want), text)
 }
@@ -373,7 +375,7 @@ fn a_refused_line_is_not_reported_as_unreadable_input(rt: HostRuntime) {
 fn is_run_until(alloc: Global, bytes: &[u8], want: JobStatus, text: &str) -> bool {
     let mut input = Failing {
         bytes,
-        is_interrupted: false,
+        interruptions: 3,
     };
     let mut output = Vec::new(alloc);
     let status = run_replay(alloc, settings(), &mut input, &mut output);
