@@ -6,8 +6,9 @@
 #     bash checks/gate.sh --checks [PROGRAM [NAME..]]   the checks alone, or those of these names, over a program that is built
 #
 # Each check has a line with its seconds. Its output is shown if it fails; what it skipped is always shown. A check is skipped if
-# the machine lacks a tool that it needs, if it wants root and there is none, or if there is no program; this fails nothing. The
-# last line is `N passed, M failed`, of `rt ci` and of the checks together. The status is that of the worst.
+# the machine lacks a tool that it needs, if it wants root and there is none, if there is no program, or if it might not end in
+# the minutes that the gate has, GATE_MINUTES or 170; this fails nothing. The last line is `N passed, M failed`, of `rt ci` and of
+# the checks together. The status is that of the worst.
 set -u -o pipefail
 
 top=$(dirname "$(dirname "$(readlink -f "${BASH_SOURCE[0]}")")")
@@ -19,6 +20,7 @@ mkdir "$room/bin"
 s10=$room/bin/s10
 library=$room/libs10_c.a
 chosen=()
+minutes=${GATE_MINUTES:-170}
 passed=0 failed=0 skipped=0 running=
 
 # Ends the check that runs, and removes what is ours.
@@ -66,6 +68,7 @@ check() { # NAME LIMIT TOOLS COMMAND..
     # Word splitting separates the tools.
     # shellcheck disable=SC2086
     missing=$(lacking $3)
+    if [ -z "$missing" ] && [ $((SECONDS + limit)) -gt $((minutes * 60)) ]; then missing='time left'; fi
     if [ -n "$missing" ]; then
         skipped=$((skipped + 1))
         tell skipped 0 "$name: no $missing"
@@ -120,9 +123,9 @@ run_checks() {
     check shards 900 'program python3' env TMPDIR="$memory" bash "$checks/shards.sh" "$s10" 2000
     check sizes 1200 'program python3' env TMPDIR="$memory" python3 "$checks/sizes.py" "$s10"
     check package 900 'program python3 git' bash "$checks/package.sh" "$s10"
-    check library 3600 'program rt' bash -c 'cd "$0" && rt lib && cp out/libs10_c.a "$1"' "$top/crates/s10_c" "$library"
-    check c_library 3600 'program library python3 make cc nm' env LIBRARY="$library" bash "$checks/c_library.sh" "$s10" 50
-    check counter_page 3600 'library python3 rt' bash "$checks/counter_page.sh"
+    check library 1200 'program rt' bash -c 'cd "$0" && rt lib && cp out/libs10_c.a "$1"' "$top/crates/s10_c" "$library"
+    check c_library 1200 'program library python3 make cc nm' env LIBRARY="$library" bash "$checks/c_library.sh" "$s10" 50
+    check counter_page 1200 'library python3 rt' bash "$checks/counter_page.sh"
 }
 
 # Runs `rt ci`. Sets its status, and adds what it counted.
