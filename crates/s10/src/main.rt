@@ -37,7 +37,7 @@ fn main(rt: HostRuntime) -> ExitCode {
 }
 
 fn words_of(rt: &HostRuntime) -> io::Result<Vec<String>> {
-    std::env::args(rt)?.collect(rt.alloc())
+    Ok(std::env::args(rt)?.collect(rt.alloc())?)
 }
 
 // How a command line ended.

@@ -457,7 +457,7 @@ impl Clock for Stepping {
 
 /// Returns whether the last call of seven turns in four batches has the day of the fourth reading
 /// of a clock, the first of which gives day 20,000.
-fn has_the_day_of_its_batch<R: Eprint>(rt: &R, alloc: Global) -> bool {
+fn has_the_day_of_its_batch<R: Clock + Eprint>(rt: &R, alloc: Global) -> bool {
     let Ok(mut link) = link_of(alloc, SEVEN, THREE_SENDS) else {
         return false;
     };
