@@ -102,6 +102,28 @@ pub(crate) fn remove_log(rt: &HostRuntime, made: Option<String>) {
     }
 }
 
+/// Removes a log as `remove_log` does, unless the opening has begun to write a database into a file
+/// that was empty. Without its log that file would be no database.
+pub(crate) fn remove_unused_log(
+    rt: &HostRuntime,
+    path: &str,
+    was_empty: bool,
+    made: Option<String>,
+) {
+    if was_empty && !is_empty(rt, path) {
+        return;
+    }
+    remove_log(rt, made);
+}
+
+/// Returns whether the file exists and is empty.
+pub(crate) fn is_empty(rt: &HostRuntime, path: &str) -> bool {
+    match fs::metadata(rt, path) {
+        Ok(metadata) => metadata.len() == 0,
+        Err(_) => false,
+    }
+}
+
 // Returns whether the file has a log that is not empty. Requires the canonical path: the log is
 // beside the target of a symbolic link.
 fn has_log(rt: &HostRuntime, path: &str) -> io::Result<bool> {

@@ -6,7 +6,7 @@ ghost use Rattle.s10_statements.specs.ConnectionState.{IsOpen};
 ghost use Rattle.sqlite_wal.specs.Files.{image_at};
 ghost use Rattle.s10_host.specs.Files.{IsFoundIn, IsPlain, Copies, IsFileFault, IsAbsenceOr};
 
-use crate::file_kind::{fault_of_existing, fault_of_new, missing_log, remove_log};
+use crate::file_kind::{fault_of_existing, fault_of_new, is_empty, missing_log, remove_unused_log};
 use s10_ledger::OpenFault;
 use sqlite::{Connection, Error, ErrorCode, FileFrom, FileStore, Files, Start};
 use sqlite_disk::Disk;
@@ -170,13 +170,14 @@ fn connect<S: Start>(rt: &HostRuntime, path: &str, start: S) -> Result<FileConne
     ensures refused { IfErr result IsFileFault }
 {
     eprint_size(rt, path);
+    let was_empty = is_empty(rt, path);
     let missing = missing_log(rt, path);
     match Connection::open_from(rt, path, false, start) {
         Ok(connection) => Ok(connection),
         Err((error, files)) => {
             // If the files were not returned, another program may have them open.
             if files.is_some() {
-                remove_log(rt, missing);
+                remove_unused_log(rt, path, was_empty, missing);
             }
             eprint_cause(rt, path, &error);
             Err(fault_of_opening(&error))
