@@ -100,21 +100,21 @@ const CASES: &[(&str, Asked, JobStatus, &str)] = &[
 /// Asks a question and returns its result.
 fn answer_of<W: Write>(
     rt: &HostRuntime,
-    question: Question<'_>,
+    job: &Job<'_>,
     out: &mut W,
 ) -> Result<JobStatus, WriteFault> {
     let mut days = ClockDays { clock: rt };
-    let (done, _left) = run_job(rt, &Job::Ask(question), Unknown, &mut days, out);
+    let (done, _left) = run_job(rt, job, Unknown, &mut days, out);
     done
 }
 
 /// Returns whether a question ends with this status and prints this line, and fails if the writer
 /// accepts nothing.
-fn is_reported(rt: &HostRuntime, question: Question<'_>, status: JobStatus, line: &str) -> bool {
+fn is_reported(rt: &HostRuntime, job: &Job<'_>, status: JobStatus, line: &str) -> bool {
     let mut out = Vec::new(rt.alloc());
-    answer_of(rt, question, &mut out) == Ok(status)
+    answer_of(rt, job, &mut out) == Ok(status)
         && out.as_slice() == line.as_bytes()
-        && answer_of(rt, question, &mut Refusing) == Err(WriteFault)
+        && answer_of(rt, job, &mut Refusing) == Err(WriteFault)
 }
 
 /// Returns the same for the question with number 1 of customer 7 or of the post.
@@ -130,14 +130,14 @@ fn asked_is_reported(
         Asked::Query(id) => (7, BodyWords::Query { id }),
         Asked::Withdraw => (0, BodyWords::Withdraw { range: 1 }),
     };
-    let question = Question {
+    let job = Job::Ask(Question {
         to,
         customer,
         number: 1,
         body,
         tries: Tries::new(1).unwrap(),
-    };
-    is_reported(rt, question, status, line)
+    });
+    is_reported(rt, &job, status, line)
 }
 
 #[test]
