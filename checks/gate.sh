@@ -61,7 +61,7 @@ is_chosen() { # NAME
     [ ${#chosen[@]} -eq 0 ] || [[ " ${chosen[*]} " == *" $1 "* ]]
 }
 
-# Runs a check for at most LIMIT seconds, and tells its result. TOOLS are what it needs.
+# Runs a check for at most LIMIT seconds, and prints its result. TOOLS are what it needs.
 check() { # NAME LIMIT TOOLS COMMAND..
     local name=$1 limit=$2 missing start status=0
     is_chosen "$name" || return
@@ -82,7 +82,7 @@ check() { # NAME LIMIT TOOLS COMMAND..
     judge "$name" $((SECONDS - start)) "$status" "$limit"
 }
 
-# Tells the result of a check by its status and its output.
+# Prints the result of a check by its status and its output.
 judge() { # NAME SECONDS STATUS LIMIT
     if [ "$3" -ne 0 ]; then
         failed=$((failed + 1))
