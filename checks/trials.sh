@@ -378,10 +378,11 @@ sink=folder
 tries 3 input 'cannot read the input: Is a directory (os error 21)' '' replay
 sink=kept
 
-# Six datagrams that are no requests: standard error names the sender of the first at once, and that of the last as the server ends.
+# Six datagrams that are no requests: standard error names the sender of the first at once, and that of the last as the server ends,
+# after a second for each turn in which nothing comes.
 group junk
 create 0 created '' '+ledger 32768,+ledger-wal 41' ledger
-"$s10" serve --ledger ledger --bind 127.0.0.1:0 --count 9 --day 20000 >../turns 2>../told </dev/null &
+"$s10" serve --ledger ledger --bind 127.0.0.1:0 --count 30 --day 20000 >../turns 2>../told </dev/null &
 server=$!
 await() { # WORDS
     for _ in $(seq 600); do
