@@ -1,4 +1,5 @@
 pub mod Letters
+pub mod Pair
 pub mod Serial
 pub mod Id
 pub mod TextFault

@@ -30,8 +30,8 @@ use Rattle.s10_book.proofs.Own.{IsOwned, owned}
 use Rattle.s10_book.proofs.Carried.{made_by}
 use Rattle.s10_book.proofs.Free.{id_equal}
 use Rattle.s10_book.proofs.Spaced.{id_same}
-use Rattle.s10_ranges.specs.Keys.{pair_of}
-use Rattle.s10_ranges.proofs.Pairs.{one_pair}
+use Rattle.s10_core.specs.Pair.{pair_of}
+use Rattle.s10_core.proofs.Pairs.{one_pair}
 use Rattle.s10_index.specs.Keys.{same_key, id_key}
 use Rattle.s10_ranges.proofs.Carrying.{issues_upto, upto_next, carried_at}
 use Rattle.s10_index.specs.LastIssues.{as_issue, issue_in_history, as_voided}

@@ -1,7 +1,7 @@
 -- Defines the keys by which calls and issues are found.
 use Rattle.std.specs.Prelude.{ℕ, ◌==◌, Bool, ◌&&◌}
 use Rattle.s10_core.specs.declared.id.Id.{Id}
-use Rattle.s10_ranges.specs.Keys.{pair_of}
+use Rattle.s10_core.specs.Pair.{pair_of}
 
 -- Whether two keys are equal.
 abbrev pub same_key : ℕ × ℕ → ℕ × ℕ → Bool

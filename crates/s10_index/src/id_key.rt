@@ -4,14 +4,12 @@ ghost use Rattle.std.specs.Prelude.{◌≡◌};
 ghost use Rattle.s10_core.specs.Id.{IsId};
 ghost use Rattle.s10_index.specs.Keys.{id_key};
 
-use s10_core::Id;
+use s10_core::{Id, pair_number};
 
 // Returns the four letters as a big-endian number, and the serial.
 pub(crate) fn key_of(id: &Id) -> (u32, u32)
     ensures value { result ≡ id_key id.now }
     ensures parts { IsId id.now }
 {
-    let [s0, s1] = id.service.bytes();
-    let [c0, c1] = id.country.bytes();
-    (u32::from_be_bytes([s0, s1, c0, c1]), id.serial.value())
+    (pair_number(id.service, id.country), id.serial.value())
 }

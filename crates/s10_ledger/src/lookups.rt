@@ -19,9 +19,9 @@ ghost use Rattle.s10_schema.specs.Schema.{IsLedgerSchema};
 
 use crate::faults::fault_of;
 use s10_book::BookFault;
+use s10_core::pair_number;
 use s10_history::{Range, Usage};
 use s10_replay::usage_among;
-use s10_rows::pair_number;
 use s10_statements::serials_within;
 use sqlite::{Alter, Connection};
 use std::alloc::Global;

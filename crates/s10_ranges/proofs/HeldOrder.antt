@@ -9,12 +9,13 @@ use Rattle.s10_history.specs.declared.range.Range.{Range}
 use Rattle.s10_history.specs.History.{is_held_after}
 use Rattle.s10_book.proofs.Apart.{letters_equal, letters_same}
 use Rattle.s10_ranges.specs.declared.sort_key.SortKey.TheVariants.{Holder}
-use Rattle.s10_ranges.specs.Keys.{pair_of, holder_key, key_by, IsFitting}
+use Rattle.s10_core.specs.Pair.{pair_of}
+use Rattle.s10_ranges.specs.Keys.{holder_key, key_by, IsFitting}
 use Rattle.s10_ranges.specs.Order.{range_at, IsOrder}
 use Rattle.s10_ranges.specs.Sound.{AreSound}
 use Rattle.s10_ranges.proofs.Orders.{at_place}
 use Rattle.s10_ranges.proofs.Found.{none_in_order, first_in_order}
-use Rattle.s10_ranges.proofs.Pairs.{pair_fits, one_pair}
+use Rattle.s10_core.proofs.Pairs.{pair_fits, one_pair}
 
 -- The range is the customer's, of that service and country, with a number above another.
 pub record IsHeld (after customer : ℕ) (s c : ℕ × ℕ) (r : Range) : Type 0 where

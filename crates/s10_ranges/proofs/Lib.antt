@@ -1,6 +1,5 @@
 pub mod Orders
 pub mod Found
-pub mod Pairs
 pub mod HeldOrder
 pub mod Placing
 pub mod Pushing

@@ -9,12 +9,13 @@ use Rattle.s10_history.specs.declared.range.Range.{Range}
 use Rattle.s10_history.specs.History.{overlaps}
 use Rattle.s10_book.proofs.Apart.{letters_equal, overlapping}
 use Rattle.s10_ranges.specs.declared.sort_key.SortKey.TheVariants.{First, Last}
-use Rattle.s10_ranges.specs.Keys.{pair_of, serial_key, key_by, IsFitting}
+use Rattle.s10_core.specs.Pair.{pair_of}
+use Rattle.s10_ranges.specs.Keys.{serial_key, key_by, IsFitting}
 use Rattle.s10_ranges.specs.Order.{range_at, IsRising, IsOrder, IsLeastIn}
 use Rattle.s10_ranges.specs.Sound.{AreSound}
 use Rattle.s10_ranges.proofs.Orders.{rising_low, rising_high}
 use Rattle.s10_ranges.proofs.Found.{none_in_order, first_in_order, find_none, none_found}
-use Rattle.s10_ranges.proofs.Pairs.{one_pair}
+use Rattle.s10_core.proofs.Pairs.{one_pair}
 
 -- A range that overlaps a span does not end before its first serial, and does not begin after its
 -- last.

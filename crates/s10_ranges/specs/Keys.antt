@@ -1,15 +1,11 @@
 -- Defines the numbers by which ranges are sorted.
-use Rattle.std.specs.Prelude.{ℕ, ◌+◌, ◌*◌, ◌++◌}
-use Rattle.std.specs.Int.{w32, from_be_bytes}
-use Rattle.s10_core.specs.Letters.{AreCapitals, letters_of}
+use Rattle.std.specs.Prelude.{ℕ, ◌+◌, ◌*◌}
+use Rattle.s10_core.specs.Letters.{AreCapitals}
+use Rattle.s10_core.specs.Pair.{pair_of}
 use Rattle.s10_core.specs.Serial.{IsSerial}
 use Rattle.s10_history.specs.declared.range.Range.{Range}
 use Rattle.s10_ranges.specs.declared.sort_key.SortKey.{SortKey}
 use Rattle.s10_ranges.specs.declared.sort_key.SortKey.TheVariants.{First, Last, Holder}
-
--- The four bytes of service and country as a big-endian number.
-unfoldable pub pair_of : ℕ × ℕ → ℕ × ℕ → ℕ
-pair_of service country = from_be_bytes w32 (letters_of service ++ letters_of country)
 
 -- The pair in the upper 32 bits, and the serial in the lower 32 bits.
 unfoldable pub serial_key : ℕ × ℕ → ℕ × ℕ → ℕ → ℕ

@@ -3,22 +3,11 @@
 ghost use Rattle.std.specs.Prelude.{◌≡◌, ◌≤◌, ◌<◌, ◌^◌};
 ghost use Rattle.s10_core.specs.Letters.{AreCapitals};
 ghost use Rattle.s10_core.specs.Serial.{IsSerial};
-ghost use Rattle.s10_ranges.specs.Keys.{pair_of, serial_key, holder_key, key_by, IsFitting};
+ghost use Rattle.s10_ranges.specs.Keys.{serial_key, holder_key, key_by, IsFitting};
 
 use crate::sort_key::SortKey;
-use s10_core::{Country, Serial, Service};
+use s10_core::{Country, Serial, Service, pair_number};
 use s10_history::Range;
-
-// Returns the four letters as a big-endian number.
-fn pair_number(service: Service, country: Country) -> u32
-    ensures value { result ≡ pair_of service country }
-    ensures service { AreCapitals service }
-    ensures country { AreCapitals country }
-{
-    let [s0, s1] = service.bytes();
-    let [c0, c1] = country.bytes();
-    u32::from_be_bytes([s0, s1, c0, c1])
-}
 
 // Returns the pair in the upper 32 bits and the serial in the lower 32 bits.
 pub(crate) fn serial_sort_key(service: Service, country: Country, serial: Serial) -> u128

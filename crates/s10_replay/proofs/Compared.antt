@@ -25,11 +25,13 @@ use Rattle.s10_rows.specs.declared.closed_row.ClosedRow.{ClosedRow}
 use Rattle.s10_rows.specs.declared.range_row.RangeRow.{RangeRow}
 use Rattle.s10_rows.specs.declared.serial_row.SerialRow.{SerialRow}
 use Rattle.s10_rows.specs.CallRow.{StoredCall}
-use Rattle.s10_rows.specs.Tables.{HaveSameRows, serial_row, serial_rows, pair_of}
+use Rattle.s10_core.specs.Pair.{pair_of}
+use Rattle.s10_rows.specs.Tables.{HaveSameRows, serial_row, serial_rows}
 use Rattle.s10_replay.specs.RightRows.{AreRight, kept_of, entry_of}
 use Rattle.s10_history.specs.Settings.{Terms}
 use Rattle.s10_rows.specs.Selected.{IsCall, IsIssuance}
-use Rattle.s10_replay.proofs.Pairs.{one_pair, one_number}
+use Rattle.s10_core.proofs.Pairs.{one_pair}
+use Rattle.s10_replay.proofs.Tests.{one_number}
 use Rattle.s10_replay.proofs.LastIssues.{All-last_issues}
 use Rattle.s10_replay.proofs.SerialRows.{issues_of_fit}
 use Rattle.s10_replay.proofs.Replayed.{there_at}

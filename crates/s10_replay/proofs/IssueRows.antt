@@ -40,7 +40,8 @@ use Rattle.s10_rows.specs.declared.range_write.RangeWrite.{RangeWrite}
 use Rattle.s10_rows.specs.declared.range_write.RangeWrite.TheVariants.{Mark}
 use Rattle.s10_rows.specs.declared.serial_row.SerialRow.{SerialRow}
 use Rattle.s10_rows.specs.declared.serial_write.SerialWrite.{SerialWrite}
-use Rattle.s10_rows.specs.Tables.{pair_of, range_row, range_rows, serial_row, serial_rows}
+use Rattle.s10_core.specs.Pair.{pair_of}
+use Rattle.s10_rows.specs.Tables.{range_row, range_rows, serial_row, serial_rows}
 use Rattle.s10_rows.specs.Selected.{IsCall, IsIssuance}
 use Rattle.s10_rows.specs.RowWrites.{FindAtMostOne, IssueWritesMake, MakesWrites, issues_before}
 use Rattle.s10_rows.specs.RowWrites.{marked, is_at, row_of, with_range, with_ranges, with_serial}

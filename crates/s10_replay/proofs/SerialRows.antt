@@ -19,9 +19,11 @@ use Rattle.s10_book.proofs.Free.{id_equal}
 use Rattle.s10_book.proofs.Spaced.{id_same}
 use Rattle.s10_book.proofs.Carried.{issued_at}
 use Rattle.s10_rows.specs.declared.serial_row.SerialRow.{SerialRow}
-use Rattle.s10_rows.specs.Tables.{pair_of, serial_row}
+use Rattle.s10_core.specs.Pair.{pair_of}
+use Rattle.s10_rows.specs.Tables.{serial_row}
 use Rattle.s10_rows.specs.Selected.{IsCall, IsIssuance, is_within, issue_in_row}
-use Rattle.s10_replay.proofs.Pairs.{one_pair, one_number}
+use Rattle.s10_core.proofs.Pairs.{one_pair}
+use Rattle.s10_replay.proofs.Tests.{one_number}
 use Rattle.s10_replay.proofs.LastIssues.{last_of, All-last_issues}
 
 -- The issuances of a call that has a row have rows: each part is in its bounds.

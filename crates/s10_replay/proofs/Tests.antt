@@ -8,7 +8,7 @@ use Rattle.std.proofs.lemmas.Bool.{both_ways}
 use Rattle.std.proofs.lemmas.Bool.Decides.{same_from_decides, Decides-like, Decides-eqb}
 use Rattle.std.proofs.lemmas.Bool.Decides.{Decides-int_eq, nat_tests}
 
-one_number : (a b : ℕ) → pos a ≡ pos b → a ≡ b
+pub one_number : (a b : ℕ) → pos a ≡ pos b → a ≡ b
 one_number a b e = cc
 
 pub int_eq-pos : (a b : ℕ) → int_eq (pos a) (pos b) ≡ eqb a b

@@ -30,11 +30,13 @@ use Rattle.s10_history.specs.Usage.{usage_of}
 use Rattle.s10_book.proofs.Apart.{letters_equal, letters_same}
 use Rattle.s10_history.proofs.Counting.{issued_is}
 use Rattle.s10_rows.specs.declared.serial_row.SerialRow.{SerialRow}
-use Rattle.s10_rows.specs.Tables.{HaveSameRows, pair_of, serial_row, serial_rows, flag}
+use Rattle.s10_core.specs.Pair.{pair_of}
+use Rattle.s10_rows.specs.Tables.{HaveSameRows, serial_row, serial_rows, flag}
 use Rattle.s10_replay.specs.RightRows.{day_in}
 use Rattle.s10_rows.specs.Selected.{IsCall, IsRange, IsIssuance, is_within, issue_in_row}
 use Rattle.s10_replay.specs.ReadRows.{is_voided_row, is_taken, IsUsageOf}
-use Rattle.s10_replay.proofs.Pairs.{one_pair, one_number}
+use Rattle.s10_core.proofs.Pairs.{one_pair}
+use Rattle.s10_replay.proofs.Tests.{one_number}
 use Rattle.s10_replay.proofs.SameRows.{same_length}
 use Rattle.s10_replay.proofs.LastIssues.{last_of, All-last_issues}
 use Rattle.s10_replay.proofs.SerialRows.{issues_of_fit, filter_image, last_passes}

@@ -22,7 +22,8 @@ use Rattle.s10_book.proofs.Spaced.{id_same}
 use Rattle.s10_book.proofs.Free.{id_equal}
 use Rattle.s10_rows.specs.declared.serial_row.SerialRow.{SerialRow}
 use Rattle.s10_rows.specs.declared.serial_write.SerialWrite.TheVariants.{Again}
-use Rattle.s10_rows.specs.Tables.{HaveSameRows, pair_of, range_rows, serial_row, serial_rows}
+use Rattle.s10_core.specs.Pair.{pair_of}
+use Rattle.s10_rows.specs.Tables.{HaveSameRows, range_rows, serial_row, serial_rows}
 use Rattle.s10_rows.specs.Selected.{IsCall, IsIssuance}
 use Rattle.s10_rows.specs.RowWrites.{MakesWrites, is_at}
 use Rattle.s10_replay.proofs.LastIssues.{last_of}

@@ -15,7 +15,8 @@ ghost use Rattle.s10_history.specs.Issues.{serial_after};
 ghost use Rattle.s10_rows.specs.declared.serial_row.SerialRow.{SerialRow};
 ghost use Rattle.s10_rows.specs.declared.range_write.RangeWrite.{RangeWrite};
 ghost use Rattle.s10_rows.specs.declared.serial_write.SerialWrite.{SerialWrite};
-ghost use Rattle.s10_rows.specs.Tables.{HaveSameRows, pair_of, serial_row, serial_rows};
+ghost use Rattle.s10_core.specs.Pair.{pair_of};
+ghost use Rattle.s10_rows.specs.Tables.{HaveSameRows, serial_row, serial_rows};
 ghost use Rattle.s10_rows.specs.Selected.{IsCall, is_within};
 ghost use Rattle.s10_rows.specs.RowWrites.{IssueWritesMake, MakesWrites, issues_before, write_of};
 

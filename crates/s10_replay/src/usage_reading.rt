@@ -5,7 +5,8 @@ ghost use Rattle.std.specs.Prelude.{if◌then◌else◌, List, filter, All, Ok, 
 ghost use Rattle.s10_history.specs.declared.entry.Entry.{Entry};
 ghost use Rattle.s10_history.specs.History.{day_of};
 ghost use Rattle.s10_history.specs.Usage.{usage_of};
-ghost use Rattle.s10_rows.specs.Tables.{HaveSameRows, pair_of, serial_rows};
+ghost use Rattle.s10_core.specs.Pair.{pair_of};
+ghost use Rattle.s10_rows.specs.Tables.{HaveSameRows, serial_rows};
 ghost use Rattle.s10_rows.specs.Selected.{IsCall, IsRange, is_within};
 ghost use Rattle.s10_replay.specs.ReadRows.{IsUsageOf};
 

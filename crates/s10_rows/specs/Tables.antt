@@ -1,8 +1,7 @@
 -- Defines the rows of the five tables for a history.
 use Rattle.std.specs.Prelude.{ℕ, ◌+◌, pos, Bool, if◌then◌else◌, List, [], ◌∷◌, ◌++◌, map}
 use Rattle.std.specs.Prelude.{IsPermutation, Option, Some, None, option_to_list}
-use Rattle.std.specs.Int.{w32, from_be_bytes}
-use Rattle.s10_core.specs.Letters.{letters_of}
+use Rattle.s10_core.specs.Pair.{pair_of}
 use Rattle.s10_wire.specs.declared.body.Body.{Body}
 use Rattle.s10_wire.specs.declared.body.Body.TheVariants.{Withdraw}
 use Rattle.s10_wire.specs.declared.outcome.Outcome.{Outcome}
@@ -31,10 +30,6 @@ pub record Tables : Type 0 where
 -- Two lists have the same rows, in any order.
 abbrev pub HaveSameRows : {R : Type 0} → List R → List R → Type 0
 HaveSameRows rows others = ∥ IsPermutation rows others ∥₁
-
--- The four bytes of service and country as a big-endian number.
-unfoldable pub pair_of : ℕ × ℕ → ℕ × ℕ → ℕ
-pair_of service country = from_be_bytes w32 (letters_of service ++ letters_of country)
 
 -- The one row of head: schema 1, and the settings.
 abbrev pub head_row : Terms → HeadRow

@@ -1,7 +1,7 @@
 ghost use Rattle.std.specs.Prelude.{◌≡◌};
 ghost use Rattle.s10_rows.specs.Tables.{range_row};
 
-use crate::pair::pair_number;
+use s10_core::pair_number;
 use s10_history::Range;
 
 /// A row of `ranges`: a range with its mark.

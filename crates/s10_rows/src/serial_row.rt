@@ -1,7 +1,7 @@
 ghost use Rattle.std.specs.Prelude.{◌≡◌};
 ghost use Rattle.s10_rows.specs.Tables.{serial_row};
 
-use crate::pair::pair_number;
+use s10_core::pair_number;
 use s10_history::Issuance;
 
 /// A row of `serials`: the last issue of an identifier.

@@ -2,10 +2,10 @@
 
 use crate::expect::same;
 use s10_book::{BookFault, PlainBook};
-use s10_core::{Country, Serial, Service};
+use s10_core::{Country, Serial, Service, pair_number};
 use s10_history::{Range, Settings, Usage};
 use s10_replay::{replay_rows, usage_among};
-use s10_rows::{CallRow, OpenFault, SerialRow, pair_number};
+use s10_rows::{CallRow, OpenFault, SerialRow};
 use std::alloc::Global;
 use std::process::Abort;
 

@@ -11,7 +11,7 @@ returns-clause-answer g c clean h t legal calls stands few has asked day =
     rw (c.usage_among.ensures.found h calls (All-contains IsRange (ranges_of h) c.args.range.now
     (ranges_of_fit h few calls) has) asked day
     (rw c.deref.ensures.value (rw (
-      c.pair_number-pair.ensures,
+      c.pair_number-pair.ensures.value,
       c.value-first.ensures.value,
       c.value-last.ensures.value,
     ) at (c.in-Ok.ensures.rows clean (tables_of h t) stands)))) refl

@@ -4,7 +4,7 @@ use Rattle.std.proofs.Common.{arith}
 use Rattle.std.specs.Int.{w32, from_be_bytes, to_be_bytes}
 use Rattle.std.proofs.lemmas.Nat.{be_bytes_4, from_be_bytes-to_be_bytes_4}
 use Rattle.s10_core.specs.Letters.{AreCapitals}
-use Rattle.s10_ranges.specs.Keys.{pair_of}
+use Rattle.s10_core.specs.Pair.{pair_of}
 
 each_byte : (s c : ℕ × ℕ) → AreCapitals s → AreCapitals c → (i : ℕ)
     → get_or (s.0 ∷ s.1 ∷ c.0 ∷ c.1 ∷ []) i 0 < 256

@@ -1,7 +1,7 @@
 use Rattle.std.proofs.Common.{◌∙◌, ap₂, [], ◌∷◌, get_or}
 use Rattle.std.specs.Int.{w32, from_be_bytes}
-use Rattle.s10_ranges.specs.Keys.{pair_of}
-use Rattle.s10_ranges.proofs.keys.pair_number.Goals as goal
+use Rattle.s10_core.specs.Pair.{pair_of}
+use Rattle.s10_core.proofs.pair.pair_number.Goals as goal
 
 pub returns-clause-value : goal.returns-clause-value
 unfolding pair_of
