@@ -11,7 +11,7 @@ use crate::book::Book;
 use crate::book_fault::BookFault;
 use crate::picks::Picks;
 use s10_core::{Country, Id, Service};
-use s10_history::{HolderKey, Range, id_in_range, is_free};
+use s10_history::{HolderKey, Range, is_free};
 use s10_wire::{Count, Ids};
 
 // Returns the identifier that the range gives after `issued` further picks of it. Returns `None` if
@@ -37,11 +37,7 @@ fn free_pick<B: Book>(
     if !is_free(&candidate.issue, day, interval) {
         return Ok(None);
     }
-    Ok(Some(Id {
-        service: range.service,
-        serial: candidate.serial,
-        country: range.country,
-    }))
+    Ok(Some(range.id(candidate.serial)))
 }
 
 /// Returns the identifiers of `count` single Draws of the customer, one after another on that day.
@@ -80,7 +76,7 @@ pub fn successive_draws<B: Book>(
         return Ok(None);
     };
     let mut issued = 0;
-    let mut picks = Picks::new(id_in_range(&range, range.first.value()));
+    let mut picks = Picks::new(range.id(range.first));
     while picks.len() < wanted {
         if let Some(id) = free_pick(book, &range, issued, day, interval)? {
             picks.push(id);

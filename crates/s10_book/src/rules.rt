@@ -46,11 +46,7 @@ fn decide_draw<B: Book>(
         after = range.num;
         let candidate = book.candidate(&range)?;
         if is_free(&candidate.issue, day, interval) {
-            let id = Id {
-                service: range.service,
-                serial: candidate.serial,
-                country: range.country,
-            };
+            let id = range.id(candidate.serial);
             return Ok(Outcome::Drawn { day, id });
         }
     }

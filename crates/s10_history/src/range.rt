@@ -1,4 +1,4 @@
-use s10_core::{Country, Serial, Service};
+use s10_core::{Country, Id, Serial, Service};
 
 /// Serials that a customer may draw, as a Grant created them.
 #[derive(Clone, Copy, Debug, PartialEq, Eq)]
@@ -19,28 +19,43 @@ pub struct Range {
 
 impl Range {
     ghost use Rattle.std.specs.Prelude.{◌≡◌, ◌≤◌, ◌<◌};
-    ghost use Rattle.s10_history.specs.Issues.{size_of, serial_after_steps};
+    ghost use Rattle.s10_history.specs.Issues.{id_at, size_of, serial_after, serial_after_steps};
     ghost use Rattle.s10_history.specs.History.{is_held, overlaps};
 
     /// Returns the number of serials in the range, at most 100,000,000.
     pub fn size(&self) -> u32
-        ensures { result ≡ size_of self.now }
+        ensures count { result ≡ size_of self.now }
+        ensures few { result ≤ 100000000 }
     {
         (self.last.value() + 1).saturating_sub(self.first.value())
     }
 
     /// Returns the serial `count` steps after `serial`, wrapping from `last` to `first`.
     ///
-    /// This is promised if `serial` is in the range and `count < size()`.
+    /// This is promised if `serial` is in the range and `count < size()`. One step is promised from
+    /// any serial that is not above `last`.
     pub fn serial_after(&self, serial: Serial, count: u8) -> Serial
-        ensures { self.now.first ≤ serial → serial ≤ self.now.last → count < size_of self.now
+        ensures steps { self.now.first ≤ serial → serial ≤ self.now.last → count < size_of self.now
             → result ≡ serial_after_steps self.now serial count }
+        ensures next { serial ≤ self.now.last → count ≡ 1 → result ≡ serial_after self.now serial }
     {
         let next = serial.value() + u32::from(count);
-        if next <= self.last.value() {
+        let last = self.last.value();
+        if next <= last {
             Serial::new(next).unwrap_or(serial)
         } else {
-            Serial::new(next - self.size()).unwrap_or(serial)
+            Serial::new(self.first.value() + (next - last - 1)).unwrap_or(serial)
+        }
+    }
+
+    /// Returns the identifier of the range with this serial.
+    pub fn id(&self, serial: Serial) -> Id
+        ensures { result ≡ id_at self.now serial }
+    {
+        Id {
+            service: self.service,
+            serial,
+            country: self.country,
         }
     }
 

@@ -56,11 +56,7 @@ pub fn id_in_range(range: &Range, serial: u32) -> Id
     requires { serial < 100000000 }
     ensures { result ≡ id_at range.now serial }
 {
-    Id {
-        service: range.service,
-        serial: Serial::new(serial).unwrap_or(range.first),
-        country: range.country,
-    }
+    range.id(Serial::new(serial).unwrap_or(range.first))
 }
 
 /// Returns whether an identifier lies in a range.

@@ -51,7 +51,7 @@ pub fn candidate_in(entries: &[Entry], issues: &[Issuance], range: &Range) -> Ca
             None => range.first,
         },
     };
-    let id = id_in_range(range, serial.value());
+    let id = range.id(serial);
     Candidate {
         serial,
         issue: last_issue_in(entries, issues, &id),

@@ -140,12 +140,7 @@ impl CallIndex {
             → result ≡ candidate_after_of h range.now issued }
     {
         let serial = range.serial_after(self.pick(range), issued);
-        let id = Id {
-            service: range.service,
-            serial,
-            country: range.country,
-        };
-        let issue = self.last_issue(&id);
+        let issue = self.last_issue(&range.id(serial));
         Candidate { serial, issue }
     }
 

@@ -45,11 +45,7 @@ fn prior_issue_in(lap: Lap, range: &Range, entry: &Entry, arrival: u32, place: u
         × (is_issued (take place (issues_at arrival entry.now)) (id_at range.now range.now.last)
         ≡ false) }
 {
-    let last = Id {
-        service: range.service,
-        serial: range.last,
-        country: range.country,
-    };
+    let last = range.id(range.last);
     match lap {
         Lap::First if !is_issued_before(entry, arrival, place, &last) => PriorIssue::Never,
         _ => PriorIssue::Before,

@@ -8,24 +8,12 @@ use crate::mark::Mark;
 use s10_core::Serial;
 use s10_history::Range;
 
-// Returns the next serial of the range, wrapping from the last to the first.
-fn serial_after(range: &Range, serial: Serial) -> Serial
-    requires { serial ≤ range.now.last }
-    ensures { result ≡ (if serial == range.now.last then range.now.first else serial + 1) }
-{
-    let last = range.last.value();
-    if serial.value() == last {
-        return range.first;
-    }
-    Serial::new(serial.value() + 1).unwrap_or(range.first)
-}
-
 // Returns the mark of the range after it issued `serial` in the lap `lap`.
 pub(crate) fn next_mark(range: &Range, lap: Lap, serial: Serial) -> Mark
     requires { serial ≤ range.now.last }
     ensures { result ≡ mark_after range.now lap serial }
 {
-    let next = serial_after(range, serial);
+    let next = range.serial_after(serial, 1);
     if serial.value() == range.last.value() {
         return Mark {
             serial: next,

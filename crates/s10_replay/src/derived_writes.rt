@@ -1,6 +1,6 @@
 //! The writes of a call to the derived rows.
 
-ghost use Rattle.std.specs.Prelude.{◌≡◌, ℕ, ◌+◌, pos, true, false, List, [], ◌++◌, ◌∷◌, length};
+ghost use Rattle.std.specs.Prelude.{◌≡◌, ℕ, ◌+◌, ◌≤◌, pos, true, false, List, [], ◌++◌, ◌∷◌, length};
 ghost use Rattle.std.specs.Prelude.{filter, option_to_list, slice_get, All, Contains, Some, None};
 ghost use Rattle.std.specs.Prelude.{IfOk, IfErr, IsOk, IsSome};
 ghost use Rattle.s10_core.specs.declared.id.Id.{Id};
@@ -27,16 +27,13 @@ use s10_wire::Outcome;
 
 // Returns the write of the mark after the range issued `serial`.
 fn mark_write(range: &Range, serial: Serial) -> RangeWrite
-    ensures { result ≡ RangeWrite.Mark (pos range.now.num) (pos (serial_after range.now serial)) }
+    ensures { serial ≤ range.now.last
+        → result ≡ RangeWrite.Mark (pos range.now.num) (pos (serial_after range.now serial)) }
 {
-    let mark = if serial == range.last {
-        range.first.value()
-    } else {
-        serial.value() + 1
-    };
+    let mark = range.serial_after(serial, 1);
     RangeWrite::Mark {
         num: i64::from(range.num),
-        mark: i64::from(mark),
+        mark: i64::from(mark.value()),
     }
 }
 

@@ -37,14 +37,6 @@ fn count_issue(usage: Usage, issue: &Issue, day: u32, interval: u32) -> Usage
     }
 }
 
-// Returns the number of serials in the range.
-fn range_size(range: &Range) -> u32
-    ensures count { result ≡ range.now.last + 1 - range.now.first }
-    ensures few { result ≤ 100000000 }
-{
-    (range.last.value() + 1).saturating_sub(range.first.value())
-}
-
 /// Returns the usage of a range, by its rows of `serials`: serials with a row were issued, all
 /// others are free.
 ///
@@ -68,7 +60,7 @@ pub fn usage_among(
         (pos range.now.first) (pos range.now.last)) (serial_rows h)) rows.now
         → result ≡ Ok (usage_of h range.now asked interval) }
 {
-    let serials = range_size(range);
+    let serials = range.size();
     if rows.len() > serials as usize {
         return Err(BookFault::Store);
     }

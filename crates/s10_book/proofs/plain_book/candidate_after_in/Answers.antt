@@ -14,7 +14,7 @@ returns c =
     c.args.range.now = ap (λ (x : Candidate). x.serial) c.candidate_in-pick.ensures in
     let turns = all_at_pick h c.requires.legal.0 c.requires.legal.1 r c.requires.there in
     let s : c.serial_after-serial.result ≡ serial_after_steps r (pick_of (issues_of h) r)
-    c.args.issued = c.serial_after-serial.ensures (omega (arith, at, turns.low))
+    c.args.issued = c.serial_after-serial.ensures.steps (omega (arith, at, turns.low))
     (omega (arith, at, turns.high)) c.requires.fewer
     ∙ ap (λ m. serial_after_steps r m c.args.issued) at in
     let issue : c.last_issue_in.result ≡ last_issue_of h (id_at r c.serial_after-serial.result) =

@@ -81,7 +81,8 @@ returns-then-is_free-clause-answer g c = λ h.
     (ranges_open first c.args.customer c.args.service c.args.country) ≡ Some c.in-Some.range =
     Remaining-found _ _ _ _ _ (numbered 1 first) found (passes_is first c.in-Some.range _ _ _ true
     chosen c.if-is_free.ensures) (c.loop-range.invariant.remaining h0) in
-    ap (λ (found : Candidate). Drawn c.args.day (id_at c.in-Some.range found.serial)) chosen
+    ap (Drawn c.args.day) c.id-id.ensures
+    ∙ ap (λ (found : Candidate). Drawn c.args.day (id_at c.in-Some.range found.serial)) chosen
     ∙ sym (drawn_found (issues_of first) c.args.day _ _ _ is)
     ∙ ap (λ n. draw_answer first c.args.customer c.args.service c.args.country c.args.day n)
     (c.loop-range.invariant.interval h0)

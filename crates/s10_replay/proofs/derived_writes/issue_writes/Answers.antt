@@ -3,6 +3,7 @@ use Rattle.s10_rows.specs.declared.range_write.RangeWrite.{RangeWrite}
 use Rattle.s10_rows.specs.declared.serial_write.SerialWrite.{SerialWrite}
 use Rattle.s10_rows.specs.Tables.{serial_row}
 use Rattle.s10_rows.specs.RowWrites.{IssueWritesMake, write_of}
+use Rattle.s10_book.proofs.Apart.{within}
 use Rattle.s10_replay.proofs.IssueRows.{issue_makes}
 use Rattle.s10_replay.proofs.derived_writes.issue_writes.Goals as goal
 
@@ -10,7 +11,7 @@ pub returns : goal.returns
 returns c = λ h t e place ranges serials legal may calls call at there lies never made.
     let makes = issue_makes h t e place c.args.issuance.now c.args.range.now c.args.issued ranges
     serials legal may calls call at there lies never made in
-    let mark = c.mark_write.ensures in
+    let mark = c.mark_write.ensures (within c.args.range.now c.args.issuance.now.id lies).high in
     let serial = c.issue_write.ensures ∙ ap (write_of c.args.issued) c.of-row.ensures in
     let P : RangeWrite → Type 0 = λ w. IssueWritesMake h e (place + 1) (ranges ++ w ∷ [])
     (serials ++ write_of c.args.issued (serial_row false c.args.issuance.now) ∷ []) in

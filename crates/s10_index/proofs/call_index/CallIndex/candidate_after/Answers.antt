@@ -15,8 +15,8 @@ returns c h t legal indexes has fewer =
     let f : ℕ → Option Issue → Candidate = λ s i. record { serial = s; issue = i } in
     let serial : c.serial_after-serial.result ≡ serial_after_steps r (pick_of (issues_of h) r)
     c.args.issued =
-    c.serial_after-serial.ensures (omega (arith, pick, turns.low)) (omega (arith, pick, turns.high))
+    c.serial_after-serial.ensures.steps (omega (arith, pick, turns.low)) (omega (arith, pick, turns.high))
     fewer ∙ ap (λ m. serial_after_steps r m c.args.issued) pick in
-    ap₂ f serial (c.last_issue-issue.ensures h indexes ∙ ap (λ s. last_issue_of h (id_at r s))
-    serial)
+    ap₂ f serial (c.last_issue-issue.ensures h indexes ∙ ap (last_issue_of h) c.id.ensures
+    ∙ ap (λ s. last_issue_of h (id_at r s)) serial)
     ∙ sym (candidate_after_is h t r c.args.issued legal has)
