@@ -1,10 +1,10 @@
 -- Serials of a range, counted from its first to its last.
 use Rattle.std.proofs.Common.{◌≡◌, ℕ, zero, suc, ◌+◌, ◌-◌, ◌<◌, ◌≤◌, Bool, true, false, cond, ◌||◌}
-use Rattle.std.proofs.Common.{List, [], ◌∷◌, Option, Some, None, refl, sym, ap, ◌∙◌, arith, length}
+use Rattle.std.proofs.Common.{List, [], ◌∷◌, Option, Some, None, refl, sym, ap, ◌∙◌, arith}
 use Rattle.std.specs.Prelude.{max, filter, count_by, is_some}
 use Rattle.std.specs.List.{list_any, last_or, range_with_len}
 use Rattle.std.specs.Option.{option_map, unwrap_or}
-use Rattle.std.proofs.lemmas.List.Sums.{sum_by-cons, count_by-le-length}
+use Rattle.std.proofs.lemmas.List.Sums.{sum_by-cons}
 use Rattle.s10_core.specs.declared.id.Id.{Id}
 use Rattle.s10_history.specs.declared.entry.Entry.{Entry}
 use Rattle.s10_history.specs.declared.range.Range.{Range}
@@ -14,16 +14,12 @@ use Rattle.s10_history.specs.declared.usage.Usage.{Usage}
 use Rattle.s10_history.specs.Issues.{issues_of, is_of, is_issued, is_voided, is_free, is_free_since}
 use Rattle.s10_history.specs.Issues.{last_issuance_of, last_issue_of, id_at, serials}
 use Rattle.s10_history.specs.History.{day_of}
-use Rattle.s10_history.specs.Usage.{usage_of}
+use Rattle.s10_history.specs.Usage.{usage_of, CountsSerials}
 use Rattle.s10_history.proofs.Issued.{free_last}
 
 -- n serials below low pass; with those from low on, they are all that pass in the range.
 abbrev pub Counted : (ℕ → Bool) → Range → ℕ → ℕ → Type 0
 Counted p r low n = n + count_by p (range_with_len low (r.last + 1 - low)) ≡ count_by p (serials r)
-
-length-range_with_len : (low n : ℕ) → length (range_with_len low n) ≡ n
-length-range_with_len low zero = refl
-length-range_with_len low (suc n) = ap suc (length-range_with_len (low + 1) n)
 
 Counted-start : (p : ℕ → Bool) (r : Range) (low : ℕ) → low ≡ r.first → Counted p r low 0
 Counted-start p r low at = omega (
@@ -32,17 +28,7 @@ Counted-start p r low at = omega (
       at,
 )
 
--- At most as many serials pass as there are.
-pub Counted-le : (p : ℕ → Bool) (r : Range) (low n : ℕ) → Counted p r low n
-    → n ≤ r.last + 1 - r.first
-Counted-le p r low n counted = omega (
-  arith,
-  counted,
-  count_by-le-length p (serials r),
-  length-range_with_len r.first (r.last + 1 - r.first),
-)
-
-pub Counted-step : (p : ℕ → Bool) (r : Range) (low n : ℕ) (b : Bool) → low ≤ r.last → b ≡ p low
+Counted-step : (p : ℕ → Bool) (r : Range) (low n : ℕ) (b : Bool) → low ≤ r.last → b ≡ p low
     → Counted p r low n → Counted p r (low + 1) (n + cond b 1 0)
 Counted-step p r low n b le is counted =
     let long : r.last + 1 - low ≡ suc (r.last + 1 - (low + 1)) = omega arith in
@@ -53,7 +39,7 @@ Counted-step p r low n b le is counted =
     omega (arith, counted, split)
 
 -- After the last serial, all are counted.
-pub Counted-all : (p : ℕ → Bool) (r : Range) (low n : ℕ) → r.last < low → Counted p r low n
+Counted-all : (p : ℕ → Bool) (r : Range) (low n : ℕ) → r.last < low → Counted p r low n
     → n ≡ count_by p (serials r)
 Counted-all p r low n lt counted =
     let none : r.last + 1 - low ≡ 0 = omega arith in
@@ -102,55 +88,54 @@ pub voided_is : (h : List Entry) (x : Id)
 voided_is h x = voided_by (last_issuance_of (issues_of h) x) _ _ (λ i. refl)
 
 -- The usage of the serials below low.
-pub record UsedBelow (h : List Entry) (is : List Issuance) (r : Range) (day interval low : ℕ)
-    (u : Usage) : Type 0 where
-  pub used : Counted (λ serial. is_issued is (id_at r serial)) r low u.used
+pub record UsedBelow (h : List Entry) (r : Range) (day interval low : ℕ) (u : Usage) : Type 0 where
+  pub used : Counted (λ serial. is_issued (issues_of h) (id_at r serial)) r low u.used
   pub voided : Counted (λ serial. is_voided h (id_at r serial)) r low u.voided
-  pub free : Counted (λ serial. is_free is (id_at r serial) day interval) r low u.free
+  pub free : Counted (λ serial. is_free (issues_of h) (id_at r serial) day interval) r low u.free
 
-pub UsedBelow-step : (h : List Entry) (is : List Issuance) (r : Range) (day interval low : ℕ)
-    (u v : Usage) (last : Option Issue) (some voided free : Bool)
-    → low ≤ r.last → is ≡ issues_of h → last ≡ last_issue_of h (id_at r low)
+pub UsedBelow-step : (h : List Entry) (r : Range) (day interval low : ℕ) (u v : Usage)
+    (last : Option Issue) (some voided free : Bool) → low ≤ r.last
+    → last ≡ last_issue_of h (id_at r low)
     → some ≡ is_some last → voided ≡ unwrap_or (option_map (λ (i : Issue). i.voided) last) false
     → free ≡ is_free_since day interval (option_map (λ (i : Issue). i.day) last)
     → v.used ≡ u.used + cond some 1 0 → v.voided ≡ u.voided + cond voided 1 0
     → v.free ≡ u.free + cond free 1 0
-    → UsedBelow h is r day interval low u → UsedBelow h is r day interval (low + 1) v
-UsedBelow-step h is r day interval low u v last some voided free le are known is0 is1 is2 e0 e1 e2
-    below =
+    → UsedBelow h r day interval low u → UsedBelow h r day interval (low + 1) v
+UsedBelow-step h r day interval low u v last some voided free le known is0 is1 is2 e0 e1 e2 below =
     let x = id_at r low in
-    let some_is : some ≡ is_issued is x = is0 ∙ ap is_some known ∙ issued_is h x
-    ∙ ap (λ l. is_issued l x) (sym are) in
+    let some_is : some ≡ is_issued (issues_of h) x = is0 ∙ ap is_some known ∙ issued_is h x in
     let void_is : voided ≡ is_voided h x =
     is1 ∙ ap (λ o. unwrap_or (option_map (λ (i : Issue). i.voided) o) false) known
     ∙ voided_is h x in
-    let free_is : free ≡ is_free is x day interval =
+    let free_is : free ≡ is_free (issues_of h) x day interval =
     is2 ∙ ap (λ o. is_free_since day interval (option_map (λ (i : Issue). i.day) o)) known
-    ∙ free_last day interval (last_issuance_of (issues_of h) x) _ (λ i. refl)
-    ∙ ap (λ l. is_free l x day interval) (sym are) in
+    ∙ free_last day interval (last_issuance_of (issues_of h) x) _ (λ i. refl) in
     record {
       used = rw e0 (Counted-step _ r low u.used some le some_is below.used);
       voided = rw e1 (Counted-step _ r low u.voided voided le void_is below.voided);
       free = rw e2 (Counted-step _ r low u.free free le free_is below.free);
     }
 
-pub UsedBelow-start : (h : List Entry) (is : List Issuance) (r : Range) (day interval low : ℕ)
-    → low ≡ r.first → UsedBelow h is r day interval low (record { used = 0; voided = 0; free = 0 })
-UsedBelow-start h is r day interval low at = record {
+pub UsedBelow-start : (h : List Entry) (r : Range) (day interval low : ℕ) → low ≡ r.first
+    → UsedBelow h r day interval low (record { used = 0; voided = 0; free = 0 })
+UsedBelow-start h r day interval low at = record {
   used = Counted-start _ r low at;
   voided = Counted-start _ r low at;
   free = Counted-start _ r low at;
 }
 
-pub UsedBelow-few : (h : List Entry) (is : List Issuance) (r : Range) (day interval low : ℕ)
-    (u : Usage) → UsedBelow h is r day interval low u
-    → (u.used ≤ r.last + 1 - r.first) × (u.voided ≤ r.last + 1 - r.first)
-    × (u.free ≤ r.last + 1 - r.first)
-UsedBelow-few h is r day interval low u below = (
-  Counted-le (λ serial. is_issued is (id_at r serial)) r low u.used below.used,
-  Counted-le (λ serial. is_voided h (id_at r serial)) r low u.voided below.voided,
-  Counted-le (λ serial. is_free is (id_at r serial) day interval) r low u.free below.free,
-)
+pub one_more : (b : Bool) (n m : ℕ) → m ≡ n + cond b 1 0 → m ≤ n + 1
+one_more true n m is = omega (arith, is)
+one_more false n m is = omega (arith, is)
+
+-- After the last serial, the usage is that of the range.
+pub UsedBelow-all : (h : List Entry) (r : Range) (day interval low : ℕ) (u : Usage) → r.last < low
+    → UsedBelow h r day interval low u → CountsSerials h r day interval u
+UsedBelow-all h r day interval low u lt below = record {
+  used = Counted-all _ r low u.used lt below.used;
+  voided = Counted-all _ r low u.voided lt below.voided;
+  free = Counted-all _ r low u.free lt below.free;
+}
 
 same_usage : (a b : Usage) → a.used ≡ b.used → a.voided ≡ b.voided → a.free ≡ b.free → a ≡ b
 same_usage a b e0 e1 e2 =

@@ -51,8 +51,8 @@ pub fn covering_in(ranges: &[Range], span: &SerialSpan) -> Option<Range>
         .copied()
 }
 
-/// Returns the identifier of the range with this serial.
-pub fn id_in_range(range: &Range, serial: u32) -> Id
+// Returns the identifier of the range with this serial.
+pub(crate) fn id_in_range(range: &Range, serial: u32) -> Id
     requires { serial < 100000000 }
     ensures { result ≡ id_at range.now serial }
 {

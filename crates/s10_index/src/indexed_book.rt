@@ -1,15 +1,13 @@
 //! The book in memory over an index.
 
 ghost use Rattle.std.specs.Prelude.{◌≡◌, ◌∷◌, ◌++◌, [], ⊤, OnOk, OnErr, IfOk, IfErr, IfSome, Some};
-ghost use Rattle.std.specs.Prelude.{IsTrue, Contains, find, ◌==◌, ◌<◌, ◌≤◌, length, count_by};
+ghost use Rattle.std.specs.Prelude.{IsTrue, Contains, find, ◌==◌, ◌<◌, ◌≤◌, length};
 ghost use Rattle.s10_wire.specs.Kind.{fits};
 ghost use Rattle.s10_history.specs.History.{ranges_of, find_entry, entry_at, is_closed};
 ghost use Rattle.s10_history.specs.History.{is_open_after, overlaps};
-ghost use Rattle.s10_history.specs.Issues.{issues_of, last_issue_of, candidate_of};
-ghost use Rattle.s10_history.specs.Issues.{candidate_after_of, size_of, pick_of, is_issued};
-ghost use Rattle.s10_history.specs.Issues.{is_voided as is_voided_in, is_free as is_free_on, id_at};
-ghost use Rattle.s10_history.specs.Issues.{serials};
-ghost use Rattle.s10_history.specs.Usage.{usage_of};
+ghost use Rattle.s10_history.specs.Issues.{last_issue_of, candidate_of, candidate_after_of};
+ghost use Rattle.s10_history.specs.Issues.{size_of};
+ghost use Rattle.s10_history.specs.Usage.{usage_of, CountsSerials};
 ghost use Rattle.s10_history.specs.declared.settings.TheConstants.{MAX_LIMIT};
 ghost use Rattle.s10_book.specs.Rules.{IsLegal, MayFollow};
 ghost use Rattle.s10_book.specs.BookFault.{CountsResult, no_faults};
@@ -19,8 +17,7 @@ use crate::call_index::CallIndex;
 use s10_book::{Book, BookFault, Faults, GroupCommit};
 use s10_core::Id;
 use s10_history::{
-    Candidate, Entry, HolderKey, Issue, Range, SerialSpan, Settings, Usage, count_if, id_in_range,
-    is_free, is_voided,
+    Candidate, Entry, HolderKey, Issue, Range, SerialSpan, Settings, Usage, usage_by,
 };
 use std::alloc::{AllocError, Global};
 
@@ -83,29 +80,11 @@ impl IndexedBook {
     // Counts the serials of the range that were issued, that are voided, and that are free on the
     // day.
     fn usage_on(&self, range: &Range, day: u32) -> Usage
-        ensures used { result.used
-            ≡ count_by (λ serial. is_issued (issues_of self.now.index.entries.items)
-            (id_at range.now serial)) (serials range.now) }
-        ensures voided { result.voided
-            ≡ count_by (λ serial. is_voided_in self.now.index.entries.items
-            (id_at range.now serial)) (serials range.now) }
-        ensures free { result.free
-            ≡ count_by (λ serial. is_free_on (issues_of self.now.index.entries.items)
-            (id_at range.now serial) day self.now.settings.interval) (serials range.now) }
+        ensures { CountsSerials self.now.index.entries.items range.now day
+            self.now.settings.interval result }
     {
         let interval = self.settings.interval();
-        let mut usage = Usage {
-            used: 0,
-            voided: 0,
-            free: 0,
-        };
-        for value in range.first.value()..=range.last.value() {
-            let last = self.index.last_issue(&id_in_range(range, value));
-            usage.used = count_if(usage.used, last.is_some());
-            usage.voided = count_if(usage.voided, is_voided(&last));
-            usage.free = count_if(usage.free, is_free(&last, day, interval));
-        }
-        usage
+        usage_by(range, day, interval, |id| self.index.last_issue(id))
     }
 }
 
