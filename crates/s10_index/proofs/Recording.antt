@@ -32,19 +32,19 @@ use Rattle.s10_book.proofs.Free.{id_equal}
 use Rattle.s10_book.proofs.Spaced.{id_same}
 use Rattle.s10_core.specs.Pair.{pair_of}
 use Rattle.s10_core.proofs.Pairs.{one_pair}
-use Rattle.s10_index.specs.Keys.{same_key, id_key}
+use Rattle.s10_index.specs.Keys.{same_id_key, id_key}
 use Rattle.s10_ranges.proofs.Carrying.{issues_upto, upto_next, carried_at}
 use Rattle.s10_index.specs.LastIssues.{as_issue, issue_in_history, as_voided}
 
 -- Keys.
 
 -- Two identifiers have the same key exactly if they are the same.
-pub keys_tell : (x y : Id) → IsId x → IsId y → same_key (id_key x) (id_key y) ≡ same_id x y
+pub keys_tell : (x y : Id) → IsId x → IsId y → same_id_key (id_key x) (id_key y) ≡ same_id x y
 keys_tell x y fit_x fit_y =
-    same_from_decides (same_key (id_key x) (id_key y)) (same_id x y) (one_id, same_keys)
+    same_from_decides (same_id_key (id_key x) (id_key y)) (same_id x y) (one_id, same_keys)
     (id_equal x y, id_same x y)
   where
-    one_id : same_key (id_key x) (id_key y) ≡ true → x ≡ y
+    one_id : same_id_key (id_key x) (id_key y) ≡ true → x ≡ y
     one_id same =
         let both = and_parts _ _ same in
         let pair = one_pair x.service x.country y.service y.country fit_x.service fit_x.country
@@ -55,7 +55,7 @@ keys_tell x y fit_x fit_y =
         let f2 : ℕ × ℕ → Id = λ c. record { service = y.service; serial = y.serial; country = c } in
         ap f0 pair.0 ∙ ap f1 serial ∙ ap f2 pair.1
 
-    same_keys : x ≡ y → same_key (id_key x) (id_key y) ≡ true
+    same_keys : x ≡ y → same_id_key (id_key x) (id_key y) ≡ true
     same_keys e = and_from _ _ (eq-eqb _ _ (ap (λ (z : Id). pair_of z.service z.country) e))
         (eq-eqb _ _ (ap (λ (z : Id). z.serial) e))
 

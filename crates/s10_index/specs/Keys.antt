@@ -1,12 +1,18 @@
 -- Defines the keys by which calls and issues are found.
-use Rattle.std.specs.Prelude.{ℕ, ◌==◌, Bool, ◌&&◌}
+use Rattle.std.specs.Prelude.{◌==◌, Bool, ◌&&◌}
 use Rattle.s10_core.specs.declared.id.Id.{Id}
 use Rattle.s10_core.specs.Pair.{pair_of}
+use Rattle.s10_index.specs.declared.call_key.CallKey.{CallKey}
+use Rattle.s10_index.specs.declared.id_key.IdKey.{IdKey}
 
--- Whether two keys are equal.
-abbrev pub same_key : ℕ × ℕ → ℕ × ℕ → Bool
-same_key a b = (a.0 == b.0) && (a.1 == b.1)
+-- Whether two keys of calls are equal.
+abbrev pub same_call_key : CallKey → CallKey → Bool
+same_call_key a b = (a.customer == b.customer) && (a.number == b.number)
+
+-- Whether two keys of identifiers are equal.
+abbrev pub same_id_key : IdKey → IdKey → Bool
+same_id_key a b = (a.pair == b.pair) && (a.serial == b.serial)
 
 -- The key of an identifier: its service and country as one number, and its serial.
-abbrev pub id_key : Id → ℕ × ℕ
-id_key x = (pair_of x.service x.country, x.serial)
+abbrev pub id_key : Id → IdKey
+id_key x = record { pair = pair_of x.service x.country; serial = x.serial }

@@ -1,5 +1,5 @@
 -- Defines the map of the last issue of each identifier.
-use Rattle.std.specs.Prelude.{◌≡◌, ℕ, Bool, List, Some, if◌then◌else◌, true}
+use Rattle.std.specs.Prelude.{◌≡◌, Bool, List, Some, if◌then◌else◌, true}
 use Rattle.std.specs.Option.{option_map}
 use Rattle.std.specs.HashMap.{HashMap, get}
 use Rattle.s10_core.specs.declared.id.Id.{Id}
@@ -8,11 +8,12 @@ use Rattle.s10_history.specs.declared.entry.Entry.{Entry}
 use Rattle.s10_history.specs.declared.issue.Issue.{Issue}
 use Rattle.s10_history.specs.declared.issuance.Issuance.{Issuance}
 use Rattle.s10_history.specs.Issues.{last_issuance_of, last_issue_of, voided_after}
-use Rattle.s10_index.specs.Keys.{same_key, id_key}
+use Rattle.s10_index.specs.declared.id_key.IdKey.{IdKey}
+use Rattle.s10_index.specs.Keys.{same_id_key, id_key}
 
 -- At the key of each identifier the map has its last issue.
-abbrev pub HasIssues : {S : Type 0} → HashMap (ℕ × ℕ) Issue S → List Entry → Type 0
-HasIssues issues h = (x : Id) → IsId x → get same_key issues (id_key x) ≡ last_issue_of h x
+abbrev pub HasIssues : {S : Type 0} → HashMap IdKey Issue S → List Entry → Type 0
+HasIssues issues h = (x : Id) → IsId x → get same_id_key issues (id_key x) ≡ last_issue_of h x
 
 -- The issue that is recorded for an issuance, voided or not.
 abbrev pub as_issue : Issuance → Bool → Issue
@@ -29,15 +30,15 @@ issue_in_history h x i = as_issue i (voided_after i.arrival h x)
 
 -- At the key of each identifier the map has the issue that the history gives for the last of these
 -- issuances of it.
-abbrev pub HasLast : {S : Type 0} → HashMap (ℕ × ℕ) Issue S → List Entry → List Issuance → Type 0
-HasLast issues h is = (x : Id) → IsId x → get same_key issues (id_key x)
+abbrev pub HasLast : {S : Type 0} → HashMap IdKey Issue S → List Entry → List Issuance → Type 0
+HasLast issues h is = (x : Id) → IsId x → get same_id_key issues (id_key x)
     ≡ option_map (issue_in_history h x) (last_issuance_of is x)
 
 -- The new map has the issue at that key, and is otherwise the old one.
-abbrev pub RecordsIssue : {S : Type 0} → ℕ × ℕ → Issue → HashMap (ℕ × ℕ) Issue S
-    → HashMap (ℕ × ℕ) Issue S → Type 0
-RecordsIssue key issue old new = (q : ℕ × ℕ) → get same_key new q
-    ≡ (if same_key key q then Some issue else get same_key old q)
+abbrev pub RecordsIssue : {S : Type 0} → IdKey → Issue → HashMap IdKey Issue S
+    → HashMap IdKey Issue S → Type 0
+RecordsIssue key issue old new = (q : IdKey) → get same_id_key new q
+    ≡ (if same_id_key key q then Some issue else get same_id_key old q)
 
 -- The issue, voided.
 abbrev pub as_voided : Issue → Issue
@@ -45,7 +46,7 @@ as_voided i = record { day = i.day; voided = true; customer = i.customer; number
 
 -- The new map has the issue at that key voided, if the old one has it, and is otherwise the old
 -- one.
-abbrev pub RecordsVoid : {S : Type 0} → ℕ × ℕ → HashMap (ℕ × ℕ) Issue S → HashMap (ℕ × ℕ) Issue S
+abbrev pub RecordsVoid : {S : Type 0} → IdKey → HashMap IdKey Issue S → HashMap IdKey Issue S
     → Type 0
-RecordsVoid key old new = (q : ℕ × ℕ) → get same_key new q
-    ≡ (if same_key key q then option_map as_voided (get same_key old q) else get same_key old q)
+RecordsVoid key old new = (q : IdKey) → get same_id_key new q
+    ≡ (if same_id_key key q then option_map as_voided (get same_id_key old q) else get same_id_key old q)

@@ -10,7 +10,9 @@ ghost use Rattle.s10_history.specs.Issues.{issues_of, last_issuance_of, last_iss
 ghost use Rattle.s10_history.specs.Issues.{candidate_after_of, size_of, pick_of};
 ghost use Rattle.s10_book.specs.Rules.{IsLegal, MayFollow};
 
+use crate::call_key::CallKey;
 use crate::call_log::CallLog;
+use crate::id_key::IdKey;
 use crate::last_issues::{record_call, recorded_issue};
 use crate::positions::{find_in, position_of, record_position};
 use s10_core::{Id, Serial};
@@ -25,15 +27,15 @@ use std::collections::HashMap;
 /// Any call can be added. What the reads return is that of a history only if the calls are one
 /// (`Indexes`). The maps are hash maps, and `Ranges` searches by halving: no read walks the calls.
 #[derive(Drop)]
-/// The calls, in order of arrival.
 pub struct CallIndex {
-    /// The ranges of the calls, with their marks.
+    /// The calls, in order of arrival.
     pub(crate) entries: CallLog,
-    /// The index of each call in `entries`, from 0, by customer and request number.
+    /// The ranges of the calls, with their marks.
     pub(crate) ranges: Ranges,
-    /// The last issue of each identifier, by pair and serial.
-    positions: HashMap<(u32, u32), u32>,
-    pub(crate) issues: HashMap<(u32, u32), Issue>,
+    /// The index of each call in `entries`, from 0.
+    positions: HashMap<CallKey, u32>,
+    /// The last issue of each identifier.
+    pub(crate) issues: HashMap<IdKey, Issue>,
     ghost fitting: { All (λ e. IsTrue (fits e.request.body e.outcome)) entries.items },
 }
 
@@ -82,7 +84,8 @@ impl CallIndex {
             → result ≡ find_entry h customer number }
         ensures fits { IfSome result (λ e. IsTrue (fits e.request.body e.outcome)) }
     {
-        find_in(&self.entries, &self.positions, customer, number)
+        let key = CallKey { customer, number };
+        find_in(&self.entries, &self.positions, &key)
     }
 
     /// Returns the call with the arrival `at`, counted from 1, or `None`.
@@ -108,7 +111,11 @@ impl CallIndex {
             → Indexes self.now h → result ≡ last_issuance_of (issues_of h) id.now }
     {
         let issue = self.last_issue(id)?;
-        let place = position_of(&self.positions, issue.customer, issue.number)?;
+        let key = CallKey {
+            customer: issue.customer,
+            number: issue.number,
+        };
+        let place = position_of(&self.positions, &key)?;
         let arrival = place.checked_add(1)?;
         Some(Issuance {
             id: *id,

@@ -7,25 +7,25 @@ ghost use Rattle.s10_history.specs.declared.entry.Entry.{Entry};
 ghost use Rattle.s10_history.specs.Settings.{Terms};
 ghost use Rattle.s10_history.specs.Issues.{issues_of, carried_by};
 ghost use Rattle.s10_book.specs.Rules.{IsLegal};
-ghost use Rattle.s10_index.specs.Keys.{same_key, id_key};
+ghost use Rattle.s10_index.specs.Keys.{same_id_key, id_key};
 ghost use Rattle.s10_index.specs.LastIssues.{HasIssues, HasLast, RecordsIssue, RecordsVoid};
 ghost use Rattle.s10_index.specs.LastIssues.{as_issue};
 
-use crate::id_key::key_of;
+use crate::id_key::IdKey;
 use s10_core::Id;
 use s10_history::{Entry, Issuance, Issue};
 use s10_wire::{Body, Outcome};
 use std::collections::HashMap;
 
-pub(crate) fn recorded_issue(issues: &HashMap<(u32, u32), Issue>, id: &Id) -> Option<Issue>
-    ensures value { result ≡ get same_key issues.now (id_key id.now) }
+pub(crate) fn recorded_issue(issues: &HashMap<IdKey, Issue>, id: &Id) -> Option<Issue>
+    ensures value { result ≡ get same_id_key issues.now (id_key id.now) }
     ensures parts { IsId id.now }
 {
-    issues.get(&key_of(id)).copied()
+    issues.get(&IdKey::of(id)).copied()
 }
 
 // Records what the call issued or voided, in memory reserved for all its issuances.
-pub(crate) fn record_call(issues: &mut HashMap<(u32, u32), Issue>, entry: &Entry)
+pub(crate) fn record_call(issues: &mut HashMap<IdKey, Issue>, entry: &Entry)
     requires room { length (carried_by entry.now.outcome) ≤ spare issues.old }
     ensures { (h : List Entry) (t : Terms) → IsLegal h t → HasIssues issues.old h
         → HasIssues issues.new (h ++ entry.now ∷ []) }
@@ -41,7 +41,7 @@ pub(crate) fn record_call(issues: &mut HashMap<(u32, u32), Issue>, entry: &Entry
 }
 
 // Records each issuance of the call, in memory reserved for all of them.
-fn record_issues(issues: &mut HashMap<(u32, u32), Issue>, entry: &Entry)
+fn record_issues(issues: &mut HashMap<IdKey, Issue>, entry: &Entry)
     requires room { length (carried_by entry.now.outcome) ≤ spare issues.old }
     ensures { (h : List Entry) → HasLast issues.old (h ++ entry.now ∷ []) (issues_of h)
         → HasLast issues.new (h ++ entry.now ∷ []) (issues_of (h ++ entry.now ∷ [])) }
@@ -55,7 +55,7 @@ fn record_issues(issues: &mut HashMap<(u32, u32), Issue>, entry: &Entry)
 }
 
 // Records an issuance, in memory reserved for one more.
-fn record_issue(issues: &mut HashMap<(u32, u32), Issue>, issuance: &Issuance)
+fn record_issue(issues: &mut HashMap<IdKey, Issue>, issuance: &Issuance)
     requires room { 0 < spare issues.old }
     ensures recorded { RecordsIssue (id_key issuance.now.id) (as_issue issuance.now false)
         issues.old issues.new }
@@ -68,14 +68,14 @@ fn record_issue(issues: &mut HashMap<(u32, u32), Issue>, issuance: &Issuance)
         customer: issuance.customer,
         number: issuance.number,
     };
-    let _ = issues.insert(key_of(&issuance.id), issue);
+    let _ = issues.insert(IdKey::of(&issuance.id), issue);
 }
 
-fn record_void(issues: &mut HashMap<(u32, u32), Issue>, id: &Id)
+fn record_void(issues: &mut HashMap<IdKey, Issue>, id: &Id)
     ensures voids { RecordsVoid (id_key id.now) issues.old issues.new }
     ensures parts { IsId id.now }
 {
-    if let Some(issue) = issues.get_mut(&key_of(id)) {
+    if let Some(issue) = issues.get_mut(&IdKey::of(id)) {
         issue.voided = true;
     }
 }

@@ -4,6 +4,7 @@
 #![tactic(auto)]
 
 mod call_index;
+mod call_key;
 mod call_log;
 mod call_writes;
 mod compact_call;

@@ -12,6 +12,7 @@ ghost use Rattle.s10_rows.specs.Tables.{serial_rows};
 ghost use Rattle.s10_index.specs.LastIssues.{HasIssues};
 ghost use Rattle.s10_index.specs.RowsFrom.{last_rows, serial_rows_from};
 
+use crate::id_key::IdKey;
 use crate::indexed_book::IndexedBook;
 use crate::last_issues::recorded_issue;
 use s10_book::Book;
@@ -22,7 +23,7 @@ use std::collections::HashMap;
 
 // Returns the row of an issuance of the history if it is the last one of its identifier. It is if
 // the recorded issue has its day, since no identifier is issued twice on one day.
-fn last_row(issues: &HashMap<(u32, u32), Issue>, issuance: &Issuance) -> Option<SerialRow>
+fn last_row(issues: &HashMap<IdKey, Issue>, issuance: &Issuance) -> Option<SerialRow>
     ensures { (h : List Entry) (t : Terms) (before behind : List Issuance) → IsLegal h t
         → 1 ≤ t.interval → HasIssues issues.now h
         → issues_of h ≡ before ++ issuance.now ∷ behind
@@ -39,7 +40,7 @@ fn last_row(issues: &HashMap<(u32, u32), Issue>, issuance: &Issuance) -> Option<
 // index of the first call (`place`) is 0.
 fn push_rows(
     rows: &mut Vec<SerialRow>,
-    issues: &HashMap<(u32, u32), Issue>,
+    issues: &HashMap<IdKey, Issue>,
     entry: &Entry,
     place: u32,
 ) -> Result<(), AllocError>

@@ -7,7 +7,7 @@ use Rattle.s10_history.specs.declared.issue.Issue.{Issue}
 use Rattle.s10_history.specs.declared.issuance.Issuance.{Issuance}
 use Rattle.s10_history.specs.Issues.{carried_by, issues_at, last_issuance_of}
 use Rattle.s10_ranges.proofs.Carrying.{upto_all, issue_within}
-use Rattle.s10_index.specs.Keys.{same_key, id_key}
+use Rattle.s10_index.specs.Keys.{same_id_key, id_key}
 use Rattle.s10_index.specs.LastIssues.{as_issue, issue_in_history}
 use Rattle.s10_index.proofs.Recording.{keys_tell, told_upto}
 use Rattle.s10_index.proofs.last_issues.record_issues.Goals as goal
@@ -29,7 +29,7 @@ loop-place-preserved c =
               ap spare w.issues-is,
             );
             recorded = λ h before x fit.
-                ap (λ m. get same_key m (id_key x)) w.issues-is
+                ap (λ m. get same_id_key m (id_key x)) w.issues-is
                 ∙ w.record_issue.ensures.recorded (id_key x)
                 ∙ ap₂ (λ (b : Bool) (o : Option Issue). cond b (Some (as_issue i false)) o)
                 (keys_tell i.id x w.record_issue.ensures.parts fit)

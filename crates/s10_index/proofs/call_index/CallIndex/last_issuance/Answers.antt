@@ -8,16 +8,20 @@ pub returns-in_err-place : goal.returns-in_err-place
 returns-in_err-place c h t legal few indexes =
     let known = sym (c.last_issue.ensures h indexes) ∙ c.in_ok-issue.was in
     let it = last_placed h t c.args.id.now c.in_ok-issue.issue c.position_of.result legal known
-    (c.position_of.ensures ∙ indexes.positions c.in_ok-issue.issue.customer
-    c.in_ok-issue.issue.number) in
+    (c.position_of.ensures ∙ indexes.positions (record {
+      customer = c.in_ok-issue.issue.customer;
+      number = c.in_ok-issue.issue.number;
+    })) in
     absurd (none-some it.0 (sym c.in_err-place.was ∙ it.1))
 
 pub returns-in_err-arrival : goal.returns-in_err-arrival
 returns-in_err-arrival c h t legal few indexes =
     let known = sym (c.last_issue.ensures h indexes) ∙ c.in_ok-issue.was in
     let it = last_placed h t c.args.id.now c.in_ok-issue.issue c.position_of.result legal known
-    (c.position_of.ensures ∙ indexes.positions c.in_ok-issue.issue.customer
-    c.in_ok-issue.issue.number) in
+    (c.position_of.ensures ∙ indexes.positions (record {
+      customer = c.in_ok-issue.issue.customer;
+      number = c.in_ok-issue.issue.number;
+    })) in
     let place = same_Some c.in_ok-place.place it.0 (sym c.in_ok-place.was ∙ it.1) in
     absurd (omega (arith, c.in_err-arrival.ensures, place, it.2, few))
 
@@ -25,8 +29,10 @@ pub returns : goal.returns
 returns c h t legal few indexes =
     let known = sym (c.last_issue.ensures h indexes) ∙ c.in_ok-issue.was in
     let it = last_placed h t c.args.id.now c.in_ok-issue.issue c.position_of.result legal known
-    (c.position_of.ensures ∙ indexes.positions c.in_ok-issue.issue.customer
-    c.in_ok-issue.issue.number) in
+    (c.position_of.ensures ∙ indexes.positions (record {
+      customer = c.in_ok-issue.issue.customer;
+      number = c.in_ok-issue.issue.number;
+    })) in
     let place = same_Some c.in_ok-place.place it.0 (sym c.in_ok-place.was ∙ it.1) in
     let made : ℕ → Option Issuance =
     λ n. Some (record {
