@@ -8,8 +8,8 @@ use Rattle.s10_schema.specs.Schema.{IsLedgerSchema, IsClosedSchema, four_tables}
 use Rattle.s10_statements.specs.Shown.{shown_head, shown_call, shown_range, shown_serial}
 use Rattle.s10_statements.specs.Shown.{head_columns, call_columns, range_columns, serial_columns}
 use Rattle.s10_statements.specs.Shown.{HasIntegerRowid}
-use Rattle.s10_ledger.specs.declared.table_layout.TableLayout.{TableLayout}
-use Rattle.s10_ledger.specs.declared.table_layout.TableLayout.TheVariants.{Whole, Old}
+use Rattle.s10_ledger.specs.declared.opening.table_layout.TableLayout.{TableLayout}
+use Rattle.s10_ledger.specs.declared.opening.table_layout.TableLayout.TheVariants.{Whole, Old}
 use Rattle.s10_ledger.specs.TableLayout.{IsOfTableLayout, HasTableLayout, AreClosed}
 
 -- The four tables alone are declared as the first four of a ledger.

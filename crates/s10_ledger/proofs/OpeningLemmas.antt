@@ -26,8 +26,8 @@ use Rattle.s10_statements.proofs.CrashLemmas.{either}
 use Rattle.s10_statements.specs.Shown.{HasTables, HasOldTables, shown_head, shown_range}
 use Rattle.s10_statements.specs.Shown.{shown_serial, head_columns}
 use Rattle.s10_statements.specs.Statements.{LeavesTables}
-use Rattle.s10_ledger.specs.declared.table_layout.TableLayout.{TableLayout}
-use Rattle.s10_ledger.specs.declared.table_layout.TableLayout.TheVariants.{Whole, Old}
+use Rattle.s10_ledger.specs.declared.opening.table_layout.TableLayout.{TableLayout}
+use Rattle.s10_ledger.specs.declared.opening.table_layout.TableLayout.TheVariants.{Whole, Old}
 use Rattle.s10_ledger.specs.TableLayout.{IsOfTableLayout, HasTableLayout}
 use Rattle.s10_ledger.specs.Ledger.{IsLedger, IsOldLedger, IsAnyLedger, history_in}
 use Rattle.s10_ledger.specs.Ledger.{IsCompletedIn, MayComplete}

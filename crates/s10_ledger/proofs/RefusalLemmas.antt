@@ -40,8 +40,8 @@ use Rattle.s10_statements.specs.Shown.{shown_closed}
 use Rattle.s10_replay.specs.CheckedTables.{IsHead, IsFirstWrong, AreDerived, IsRefusal}
 use Rattle.s10_ledger.specs.Refusals.{HasRows, IsRefusedFor, IsOpeningRefusal}
 use Rattle.s10_ledger.specs.Ledger.{IsAnyLedger, history_in}
-use Rattle.s10_ledger.specs.declared.table_layout.TableLayout.{TableLayout}
-use Rattle.s10_ledger.specs.declared.table_layout.TableLayout.TheVariants.{Whole, Old}
+use Rattle.s10_ledger.specs.declared.opening.table_layout.TableLayout.{TableLayout}
+use Rattle.s10_ledger.specs.declared.opening.table_layout.TableLayout.TheVariants.{Whole, Old}
 use Rattle.s10_ledger.specs.TableLayout.{HasTableLayout}
 use Rattle.s10_ledger.proofs.Forms.{AreShown, four_lack, form_declared, form_shown}
 use Rattle.s10_statements.proofs.AnswerLemmas.{int_in, call_from, range_from, serial_from}

@@ -27,8 +27,8 @@ use Rattle.s10_rows.specs.Selected.{IsCall}
 use Rattle.s10_statements.specs.Shown.{HasTables, StandsFor, shown_head, shown_range, shown_serial}
 use Rattle.s10_statements.specs.Shown.{shown_closed, head_columns}
 use Rattle.s10_replay.specs.CheckedTables.{IsConsistent, IsRefusal}
-use Rattle.s10_ledger.specs.declared.table_layout.TableLayout.{TableLayout}
-use Rattle.s10_ledger.specs.declared.table_layout.TableLayout.TheVariants.{Whole, Old}
+use Rattle.s10_ledger.specs.declared.opening.table_layout.TableLayout.{TableLayout}
+use Rattle.s10_ledger.specs.declared.opening.table_layout.TableLayout.TheVariants.{Whole, Old}
 use Rattle.s10_ledger.specs.TableLayout.{HasTableLayout}
 use Rattle.s10_ledger.specs.Refusals.{HasRows, IsOpeningRefusal}
 use Rattle.s10_index.specs.declared.call_index.CallIndex.{CallIndex}

@@ -20,7 +20,7 @@ use Rattle.s10_index.specs.declared.replayed_book.ReplayedBook.{ReplayedBook}
 use Rattle.s10_statements.specs.Shown.{shown_head, shown_call, shown_range, shown_serial}
 use Rattle.s10_statements.specs.Shown.{head_columns, call_columns, range_columns, serial_columns}
 use Rattle.s10_statements.specs.Shown.{HasIntegerRowid}
-use Rattle.s10_ledger.specs.declared.table_layout.TableLayout.{TableLayout}
+use Rattle.s10_ledger.specs.declared.opening.table_layout.TableLayout.{TableLayout}
 use Rattle.s10_index.specs.declared.stored_rows.StoredRows.{StoredRows}
 use Rattle.s10_index.specs.ReplayedBook.{IsReplayedBook, AreDerivedRows}
 use Rattle.s10_ledger.specs.TableLayout.{HasTableLayout}

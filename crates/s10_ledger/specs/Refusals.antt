@@ -11,7 +11,7 @@ use Rattle.s10_rows.specs.declared.open_fault.OpenFault.TheVariants.{NotEmpty, M
 use Rattle.s10_rows.specs.Tables.{Tables}
 use Rattle.s10_replay.specs.CheckedTables.{IsRefusal}
 use Rattle.sqlite_schema.specs.declared.schema.Schema.{Schema}
-use Rattle.s10_ledger.specs.declared.table_layout.TableLayout.{TableLayout}
+use Rattle.s10_ledger.specs.declared.opening.table_layout.TableLayout.{TableLayout}
 use Rattle.s10_ledger.specs.TableLayout.{IsOfTableLayout, HasTableLayout}
 
 -- The database has a ledger's tables with these rows, those of calls in order of arrival.

@@ -6,8 +6,8 @@ use Rattle.s10_rows.specs.declared.closed_row.ClosedRow.{ClosedRow}
 use Rattle.s10_rows.specs.Tables.{Tables, HaveSameRows}
 use Rattle.s10_schema.specs.Schema.{IsClosedSchema, four_tables}
 use Rattle.s10_statements.specs.Shown.{HasTables, HasOldTables, shown_closed, closed_columns}
-use Rattle.s10_ledger.specs.declared.table_layout.TableLayout.{TableLayout}
-use Rattle.s10_ledger.specs.declared.table_layout.TableLayout.TheVariants.{Whole, Old}
+use Rattle.s10_ledger.specs.declared.opening.table_layout.TableLayout.{TableLayout}
+use Rattle.s10_ledger.specs.declared.opening.table_layout.TableLayout.TheVariants.{Whole, Old}
 
 -- The schema declares the tables of this layout.
 abbrev pub IsOfTableLayout : TableLayout → Schema → Type 0

@@ -7,10 +7,8 @@ mod faults;
 mod lookups;
 mod opening;
 mod pending;
-mod reading;
 mod refused;
 mod sql_book;
-mod table_layout;
 
 pub use closed_book::ClosedBook;
 pub use refused::Refused;

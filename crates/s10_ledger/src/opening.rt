@@ -1,105 +1,38 @@
 //! Opens the ledger of a connection.
+//!
+//! An opening reads the tables (`reading`), executes the calls again and compares the other tables
+//! with what results (`comparing`), and completes the tables of an earlier build (`completing`).
 
-ghost use Rattle.std.specs.Prelude.{◌≡◌, ◌≤◌, ◌⊎◌, length, IfOk, IfErr, OnOk, OnErr, IsTrue};
+ghost use Rattle.std.specs.Prelude.{◌≡◌, ◌≤◌, length, IfOk, IfErr, OnOk, OnErr, IsTrue};
 ghost use Rattle.s10_history.specs.History.{day_of};
 ghost use Rattle.s10_history.specs.declared.settings.TheConstants.{MAX_LIMIT};
-ghost use Rattle.sqlite_trees.specs.Tree.{Trees};
 ghost use Rattle.sqlite.specs.Held.{state};
 ghost use Rattle.sqlite.specs.State.{HasCleanDisk};
-ghost use Rattle.s10_rows.specs.Tables.{Tables};
-ghost use Rattle.s10_schema.specs.Schema.{IsClosedSchema, ledger_schema};
-ghost use Rattle.s10_statements.specs.Shown.{HasTables, HasOldTables};
-ghost use Rattle.s10_statements.specs.ConnectionState.{IsQuiescent, WasSound, AddsNoCrashState};
-ghost use Rattle.s10_statements.specs.Statements.{LeavesTables};
-ghost use Rattle.s10_ledger.specs.declared.table_layout.TableLayout.TheVariants.{Whole, Old};
-ghost use Rattle.s10_ledger.specs.TableLayout.{IsOfTableLayout, HasTableLayout};
-ghost use Rattle.s10_ledger.specs.AllRows.{IsFound};
+ghost use Rattle.s10_schema.specs.Schema.{IsClosedSchema};
+ghost use Rattle.s10_statements.specs.ConnectionState.{IsQuiescent, WasSound};
 ghost use Rattle.s10_ledger.specs.Ledger.{IsLedger, IsAnyLedger, IsIndexed, history_in};
 ghost use Rattle.s10_ledger.specs.Ledger.{MayComplete};
 ghost use Rattle.s10_ledger.specs.Refusals.{IsOpeningRefusal, HasSomeTableLayout};
 
-use crate::faults::opening_fault;
-use crate::reading::read_tables;
+mod comparing;
+mod completing;
+mod reading;
+mod table_layout;
+
+use crate::opening::comparing::replay_tables;
+use crate::opening::completing::complete;
+use crate::opening::table_layout::table_layout_of;
 use crate::refused::Refused;
 use crate::sql_book::SqlBook;
-use crate::table_layout::{TableLayout, table_layout_of};
-use s10_index::{CallIndex, check_tables};
+use s10_index::CallIndex;
 use s10_rows::{LedgerSummary, OpenFault};
-use s10_statements::{Observer, create_closed};
+use s10_statements::Observer;
 use sqlite::{Alter, Connection};
 use std::alloc::Global;
 
-// Returns the summary of the ledger in the tables, and the index of its calls.
-fn replay_tables<S: Alter, W: Observer>(
-    alloc: Global,
-    conn: &mut Connection<S>,
-    form: TableLayout,
-    observer: &mut W,
-) -> Result<(LedgerSummary, CallIndex), OpenFault>
-    requires settled { IsQuiescent S.Store conn.old }
-    requires form { IsOfTableLayout form (state S.Store conn.old).now.schema }
-    ensures spares { AddsNoCrashState S.Store conn.old conn.new }
-    ensures leaves { LeavesTables S.Store conn.old conn.new }
-    ensures opened { HasCleanDisk (state S.Store conn.new)
-        → OnOk result (IsTrue (state S.Store conn.new).is_open) }
-    ensures few { IfOk result (λ found. length found.1.entries.items ≤ MAX_LIMIT) }
-    ensures found { HasCleanDisk (state S.Store conn.new) → IsTrue (state S.Store conn.new).is_open
-        → IfOk result (λ found. IsFound form (state S.Store conn.old).now found.0 found.1) }
-    ensures refused { HasCleanDisk (state S.Store conn.new)
-        → IsTrue (state S.Store conn.new).is_open
-        → IfErr result (IsOpeningRefusal (state S.Store conn.old).now) }
-{
-    let (made, rows) = match read_tables(alloc, conn, form, observer) {
-        Ok(rows) => rows,
-        Err(error) => {
-            observer.statement_failed(&error);
-            return Err(opening_fault(error));
-        }
-    };
-    let made = made?;
-    check_tables(alloc, made, rows)
-}
-
-// Creates `closed` if the tables are those of an earlier build.
-fn complete<S: Alter, W: Observer>(
-    conn: &mut Connection<S>,
-    form: TableLayout,
-    observer: &mut W,
-) -> Result<(), OpenFault>
-    requires settled { IsQuiescent S.Store conn.old }
-    ensures settled { IsQuiescent S.Store conn.new }
-    ensures was { WasSound S.Store conn.old conn.new }
-    ensures opened { HasCleanDisk (state S.Store conn.new)
-        → OnOk result (IsTrue (state S.Store conn.old).is_open
-        → IsTrue (state S.Store conn.new).is_open) }
-    ensures whole { HasCleanDisk (state S.Store conn.new)
-        → OnOk result ((tables : Tables) → HasTableLayout form (state S.Store conn.old).now tables
-        → HasTables (state S.Store conn.new).now tables) }
-    ensures same { form ≡ Whole → (state S.Store conn.new).now ≡ (state S.Store conn.old).now }
-    ensures none { HasCleanDisk (state S.Store conn.new) → IsTrue (state S.Store conn.new).is_open
-        → OnErr result ((state S.Store conn.new).now ≡ (state S.Store conn.old).now) }
-    ensures crash { HasCleanDisk (state S.Store conn.new) → (db : Trees)
-        → (state S.Store conn.new).may_leave db → (state S.Store conn.old).may_leave db
-        ⊎ ((form ≡ Old) × IsTrue (state S.Store conn.old).is_open
-        × ((tables : Tables) → HasOldTables (state S.Store conn.old).now tables
-        → HasTables (record { schema = ledger_schema; trees = db }) tables)) }
-    ensures fault { IfErr result (λ f. (f ≡ OpenFault.Memory) ⊎ (f ≡ OpenFault.Store)) }
-{
-    match form {
-        TableLayout::Whole => Ok(()),
-        TableLayout::Old => match create_closed(conn) {
-            Ok(()) => Ok(()),
-            Err(error) => {
-                observer.statement_failed(&error);
-                Err(opening_fault(error))
-            }
-        },
-    }
-}
-
 // Returns the summary of the ledger in the tables, and the index of its calls. Completes the tables
 // of an earlier build.
-pub(crate) fn ledger_in<S: Alter, W: Observer>(
+fn ledger_in<S: Alter, W: Observer>(
     alloc: Global,
     conn: &mut Connection<S>,
     observer: &mut W,

@@ -6,7 +6,7 @@ use Rattle.s10_rows.specs.Tables.{HaveSameRows}
 use Rattle.s10_statements.specs.Shown.{shown_serial, serial_columns, HasIntegerRowid}
 use Rattle.s10_ledger.proofs.ReadingLemmas.{clean_between, same_between, schema_between, both_leave}
 use Rattle.s10_ledger.proofs.ReadingLemmas.{both_spare}
-use Rattle.s10_ledger.proofs.reading.read_derived_rows.Goals as goal
+use Rattle.s10_ledger.proofs.opening.reading.read_derived_rows.Goals as goal
 
 pub returns-clause-leaves : goal.returns-clause-leaves
 returns-clause-leaves g c = both_leave g.S.Store c.args.conn.now c.all_ranges.new.conn

@@ -9,7 +9,7 @@ use Rattle.s10_ledger.specs.AllRows.{HasCallRows, HasDerivedRows}
 use Rattle.s10_statements.proofs.StateLemmas.{leaves_then}
 use Rattle.s10_ledger.proofs.Forms.{form_ledger, form_has}
 use Rattle.s10_ledger.proofs.ReadingLemmas.{both_spare}
-use Rattle.s10_ledger.proofs.reading.read_tables.Goals as goal
+use Rattle.s10_ledger.proofs.opening.reading.read_tables.Goals as goal
 
 pub returns-in_err-heads-clause-leaves : goal.returns-in_err-heads-clause-leaves
 returns-in_err-heads-clause-leaves g c = leaves_then g.S.Store c.args.conn.now

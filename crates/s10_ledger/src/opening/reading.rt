@@ -13,7 +13,7 @@ ghost use Rattle.s10_ledger.specs.TableLayout.{IsOfTableLayout, AreClosed};
 ghost use Rattle.s10_index.specs.ReplayedBook.{IsReplayedBook};
 ghost use Rattle.s10_ledger.specs.AllRows.{HasCallRows, HasDerivedRows, AreRead};
 
-use crate::table_layout::TableLayout;
+use crate::opening::table_layout::TableLayout;
 use s10_index::{ReplayedBook, StoredRows};
 use s10_rows::{CallRow, ClosedRow, HeadRow, OpenFault, RangeRow, SerialRow};
 use s10_statements::{Observer, all_calls, all_closed, all_heads, all_ranges, all_serials};

@@ -1,11 +1,11 @@
 use Rattle.std.proofs.Common.{rules, ◌≡◌, inl, refl, subst}
 use Rattle.sqlite.specs.Held.{state}
-use Rattle.s10_ledger.specs.declared.table_layout.TableLayout.{TableLayout}
-use Rattle.s10_ledger.specs.declared.table_layout.TableLayout.TheVariants.{Whole, Old}
+use Rattle.s10_ledger.specs.declared.opening.table_layout.TableLayout.{TableLayout}
+use Rattle.s10_ledger.specs.declared.opening.table_layout.TableLayout.TheVariants.{Whole, Old}
 use Rattle.s10_ledger.specs.TableLayout.{HasTableLayout}
 use Rattle.s10_statements.proofs.CrashLemmas.{either}
 use Rattle.s10_ledger.proofs.OpeningLemmas.{sound_before}
-use Rattle.s10_ledger.proofs.opening.complete.Goals as goal
+use Rattle.s10_ledger.proofs.opening.completing.complete.Goals as goal
 
 not_both : (form : TableLayout) → form ≡ Old → form ≡ Whole → ⊥
 not_both form old whole = cc

@@ -4,7 +4,7 @@ use Rattle.sqlite.specs.Held.{state}
 use Rattle.s10_replay.specs.CheckedTables.{IsRefusal}
 use Rattle.s10_statements.proofs.RowByRow.{if_ok, if_err}
 use Rattle.s10_ledger.proofs.WholeLemmas.{refused_for, found_both}
-use Rattle.s10_ledger.proofs.opening.replay_tables.Goals as goal
+use Rattle.s10_ledger.proofs.opening.comparing.replay_tables.Goals as goal
 
 pub returns-clause-found : goal.returns-clause-found
 returns-clause-found g c clean opened =

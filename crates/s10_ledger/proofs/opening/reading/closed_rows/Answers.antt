@@ -1,9 +1,9 @@
 use Rattle.std.proofs.Common.{Result, Ok, Err, OnOk, ap, subst}
 use Rattle.sqlite.specs.Effect.{Database}
 use Rattle.sqlite.specs.Held.{state}
-use Rattle.s10_ledger.specs.declared.table_layout.TableLayout.{TableLayout}
+use Rattle.s10_ledger.specs.declared.opening.table_layout.TableLayout.{TableLayout}
 use Rattle.s10_ledger.specs.TableLayout.{IsOfTableLayout}
-use Rattle.s10_ledger.proofs.reading.closed_rows.Goals as goal
+use Rattle.s10_ledger.proofs.opening.reading.closed_rows.Goals as goal
 
 then_so : {T E : Type 0} (r : Result T E) (P Q : Type 0) → OnOk r P → (P → Q) → OnOk r Q
 then_so (Ok x) P Q p f = f p

@@ -5,7 +5,7 @@ use Rattle.s10_rows.specs.Tables.{HaveSameRows}
 use Rattle.s10_statements.specs.Shown.{shown_call, call_columns}
 use Rattle.s10_ledger.proofs.ReadingLemmas.{clean_between, same_between, schema_between, both_leave}
 use Rattle.s10_ledger.proofs.ReadingLemmas.{both_spare}
-use Rattle.s10_ledger.proofs.reading.read_call_rows.Goals as goal
+use Rattle.s10_ledger.proofs.opening.reading.read_call_rows.Goals as goal
 
 pub returns-clause-leaves : goal.returns-clause-leaves
 returns-clause-leaves g c = both_leave g.S.Store c.args.conn.now c.all_heads.new.conn
