@@ -1,10 +1,10 @@
 #!/usr/bin/env bash
-# Builds the C library and tries it as a C programmer would: the symbols that it needs and exports, the header as C11 and
-# C++17, demo.c alone, under the sanitizers and under valgrind, the example of contrib/c/README.md, the Debian packages,
-# the client in Python with the library and without, the client with notes, the commands of the library's pages (among
-# them Go, C# and Java), and a build for 64-bit ARM under qemu. The client draws from PROGRAM, by default
-# crates/s10/out/s10, and is killed KILLS times, by default 100. LIBRARY names a static library that is built already.
-# Says what it skipped because the machine lacks it. The last line is `c library ok`, or the status is not 0.
+# Builds the C library and tries it as a C programmer would: the symbols that it needs and exports, the same rules in plain C
+# (c_speed.c), the header as C11 and C++17, demo.c alone, under the sanitizers and under valgrind, the example of
+# contrib/c/README.md, the Debian packages, the client in Python with the library and without, the client with notes, the
+# commands of the library's pages (among them Go, C# and Java), and a build for 64-bit ARM under qemu. The client draws from
+# PROGRAM, by default crates/s10/out/s10, and is killed KILLS times, by default 100. LIBRARY names a static library that is
+# built already. Says what it skipped because the machine lacks it. The last line is `c library ok`, or the status is not 0.
 #
 #     [LIBRARY=LIBRARY.a] checks/c_library.sh [PROGRAM [KILLS]]
 set -euo pipefail
@@ -52,6 +52,10 @@ exported=$(nm -D --defined-only "$shared" | awk '{print $3}' | sort | xargs)
 declared=$(grep -oE '\bs10_[a-z_]+\(' "$c/s10.h" | tr -d '(' | sort -u | xargs)
 [ "$exported" = "$declared" ] || fail "exported $exported, declared $declared"
 echo "needs $needed; exports $(wc -w <<<"$exported") functions"
+
+# The library and the same rules in plain C: equal results, and the time of both.
+cc -std=c11 $strict -O2 -I"$c" "$top/checks/c_speed.c" "$library" -o c_speed
+./c_speed
 
 echo '#include "s10.h"' >header.c
 cp header.c header.cc
