@@ -30,6 +30,10 @@ fi
 s10=$1
 # More clients than calls can be pending (64), so that the draws of the others are `faulted store`.
 clients=72
+# What standard error says of a full disk, and once there is space.
+full='cannot use the ledger: database or disk is full'
+freed="$full
+the ledger can be used again"
 room=$(mktemp -d)
 disk=$room/disk
 ledger=$disk/ledger
@@ -128,15 +132,16 @@ withheld() {
     grep -c '^uncommitted store$\|^faulted store$' turns || true
 }
 
-# The replies that the server has sent must be those that the clients got, and its other turns must be those of a full disk.
-check_turns() { # ANSWERED_FILE
+# The replies that the server has sent must be those that the clients got, its other turns must be those of a full disk, and
+# standard error must have these lines after the address.
+check_turns() { # ANSWERED_FILE LINES
     # Word splitting separates the numbers.
     # shellcheck disable=SC2046
     printf '%08x\n' $(sed 's/.* number \([0-9]*\) .*/\1/' "$1") | sort >got
     sed -n 's/^replied 5331018200000007\(........\).*/\1/p' turns | sort -u >sent
     cmp -s got sent || fail "a reply was sent that no client got, or the reverse: draws $(comm -3 got sent | tr -d '\t' | paste -sd' ')"
     if others=$(grep -v '^replied \|^quiet$\|^uncommitted store$\|^faulted store$' turns); then fail "other turns: $others"; fi
-    [ "$(wc -l <told)" = 2 ] || fail "words on standard error: $(cat told)"
+    [ "$(sed 1,2d told)" = "$2" ] || fail "lines on standard error: $(cat told)"
 }
 
 # Each of these draws must be in the report, and nothing else. No identifier and no number may be in two of them.
@@ -178,7 +183,7 @@ fill_and_free() { # BYTES COMMAND WORDS
     done_draws answers.* | sort >answered
     [ "$(cat answers.* | grep -cvx gave-up)" = "$(wc -l <answered)" ] || fail 'a draw was refused'
     [ "$(cat answers.* | grep -cx gave-up)" = "$clients" ] || fail 'a draw got a reply though the disk is full'
-    check_turns answered
+    check_turns answered "$full"
     grep -q '^uncommitted store$' turns || fail 'no draw is uncommitted'
     grep -q '^faulted store$' turns || fail "no draw is faulted though $clients draws got no reply"
     for first in $(seq "$clients"); do
@@ -207,7 +212,7 @@ fill_and_free() { # BYTES COMMAND WORDS
     [ "$(wc -l <continued)" = $((2 * clients + 1)) ] || fail 'a draw was refused once there was space'
     [ "$(withheld)" = "$withheld" ] || fail 'a reply was withheld though there is space'
     sort answered continued >all
-    check_turns all
+    check_turns all "$freed"
     for first in $(seq "$clients"); do
         before=$(head -n 1 "after.$first")
         [ "$(draw "$(number_in "$before")" 20)" = "$before" ] || fail "a repeat once there is space: $before"
@@ -270,7 +275,7 @@ use_up "$count"
 [ "$status; $(wc -l <turns); $(tail -n 1 turns)" = "3; $((count + 1)); ledger store" ] ||
     fail "the server ended with status $status, after $(wc -l <turns) lines with $(tail -n 1 turns)"
 sed -i '$d' turns
-check_turns answered
+check_turns answered "$full"
 free
 check_ledger "$ledger" answered
 count=40

@@ -329,7 +329,13 @@ tries=5
 rm filler
 [ "$(draw 1)" = "$(sed -n 2p ../answers)" ] || fail 'a repeat once there is room'
 draw "$number" >../again || fail 'a draw once there is room'
-[ "$(wc -l <../told)" = 2 ] || fail 'words on standard error of a full disk'
+reasons='cannot use the ledger: database or disk is full
+the ledger can be used again'
+for _ in $(seq 50); do
+    if [ "$(sed 1,2d ../told)" = "$reasons" ]; then break; fi
+    sleep 0.1
+done
+[ "$(sed 1,2d ../told)" = "$reasons" ] || fail 'lines on standard error of a full disk'
 stop
 tries 0 "ledger ok $((number + 1))" '' '' audit --ledger ledger
 fi

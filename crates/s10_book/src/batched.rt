@@ -5,6 +5,7 @@ ghost use Rattle.std.specs.Prelude.{◌≡◌};
 use crate::book::Book;
 use crate::book_fault::BookFault;
 use crate::group_commit::GroupCommit;
+use crate::last_failure::LastFailure;
 use s10_core::Id;
 use s10_history::{Candidate, Entry, HolderKey, Issue, Range, SerialSpan, Settings, Usage};
 use std::marker::Model;
@@ -133,5 +134,13 @@ impl<B: GroupCommit> GroupCommit for Batched<B> {
 
     fn is_committed(&self, customer: u32, number: u32) -> bool {
         self.inner.is_committed(customer, number)
+    }
+}
+
+impl<B: LastFailure> LastFailure for Batched<B> {
+    type Reason = B::Reason;
+
+    fn last_failure(&self) -> Option<B::Reason> {
+        self.inner.last_failure()
     }
 }

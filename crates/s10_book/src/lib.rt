@@ -7,6 +7,7 @@ mod book_fault;
 mod draws;
 mod faults;
 mod group_commit;
+mod last_failure;
 mod laws;
 mod picks;
 mod plain_book;
@@ -19,6 +20,7 @@ pub use book_fault::BookFault;
 pub use draws::successive_draws;
 pub use faults::Faults;
 pub use group_commit::GroupCommit;
+pub use last_failure::LastFailure;
 pub use laws::{
     few_free, free_picks, legal_histories, never_twice, overlaps_are_common_serials,
     sheets_are_successive_draws, successive_candidates, successive_picks, withdrawn_ranges,

@@ -17,6 +17,7 @@ use crate::book::Book;
 use crate::book_fault::BookFault;
 use crate::faults::Faults;
 use crate::group_commit::GroupCommit;
+use crate::last_failure::LastFailure;
 use s10_core::Id;
 use s10_history::{
     Candidate, Entry, HolderKey, Issuance, Issue, Range, SerialSpan, Settings, Usage, candidate_in,
@@ -301,5 +302,13 @@ impl GroupCommit for PlainBook {
 
     fn is_committed(&self, _customer: u32, _number: u32) -> bool {
         true
+    }
+}
+
+impl LastFailure for PlainBook {
+    type Reason = BookFault;
+
+    fn last_failure(&self) -> Option<BookFault> {
+        None
     }
 }

@@ -6,6 +6,7 @@ ghost use Rattle.s10_book.specs.BookFault.{with_trip};
 use crate::book::Book;
 use crate::book_fault::BookFault;
 use crate::group_commit::GroupCommit;
+use crate::last_failure::LastFailure;
 use s10_core::Id;
 use s10_history::{Candidate, Entry, HolderKey, Issue, Range, SerialSpan, Settings, Usage};
 
@@ -199,5 +200,17 @@ impl<B: GroupCommit> GroupCommit for TripBook<B> {
 
     fn is_committed(&self, customer: u32, number: u32) -> bool {
         self.inner.is_committed(customer, number)
+    }
+}
+
+impl<B> LastFailure for TripBook<B> {
+    type Reason = BookFault;
+
+    fn last_failure(&self) -> Option<BookFault> {
+        if self.tripped {
+            Some(BookFault::Store)
+        } else {
+            None
+        }
     }
 }

@@ -14,7 +14,7 @@ ghost use Rattle.s10_sockets.specs.Unbound.{IsUnbound};
 ghost use Rattle.s10_host.specs.BookJobs.{HasRunBookJob, IsMadeWith, IsOpenedFrom};
 ghost use Rattle.s10_host.specs.BookJobs.{IsRefusedAs};
 
-use s10_book::{Batched, BookFault, GroupCommit};
+use s10_book::{Batched, BookFault, GroupCommit, LastFailure};
 use s10_ends::UdpLink;
 use s10_history::Settings;
 use s10_jobs::{Days, JobStatus, Report, write_report};
@@ -123,7 +123,7 @@ fn run_and_close_book<A: Alter, D: Days, W: Write>(
 
 // Runs the job on the ledger. A new ledger stays as it was created. Also returns the link that the
 // ledger was served over, or `None` if there is none.
-fn run_on_book<B: GroupCommit, D: Days, W: Write>(
+fn run_on_book<B: GroupCommit + LastFailure, D: Days, W: Write>(
     rt: &HostRuntime,
     mut book: B,
     work: BookJob,

@@ -10,6 +10,7 @@ mod clock_days;
 mod days;
 mod delivery_line;
 mod drop_log;
+mod failure_log;
 mod failures;
 mod job;
 mod job_status;

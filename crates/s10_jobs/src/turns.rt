@@ -11,10 +11,11 @@ ghost use Rattle.s10_jobs.specs.Serving.{ServesTurns, PrintsBatch};
 
 use crate::days::{Days, next_day};
 use crate::drop_log::DropLog;
+use crate::failure_log::FailureLog;
 use crate::failures::fail_by_clock;
 use crate::job_status::JobStatus;
 use crate::turn_line::write_turn;
-use s10_book::GroupCommit;
+use s10_book::{GroupCommit, LastFailure};
 use s10_ends::{Server, Turn, serve_batch, serve_batch_of_one};
 use s10_lines::WriteFault;
 use s10_link::Link;
@@ -31,6 +32,7 @@ const MAX_BATCH: u32 = 64;
 /// sent, and its lines are written and flushed. If a batch cannot be allocated, the server handles
 /// one datagram without allocating. Standard error has the sender of a dropped datagram at once. For
 /// a minute after that it only counts them, and then has their number and the sender of the last.
+/// It also has the reason why the ledger fails, at each change of the reason.
 ///
 /// From the first batch to the last, each distinct request that arrived is applied once, in order
 /// of first arrival, and the call of each reply that was sent is committed.
@@ -42,7 +44,7 @@ const MAX_BATCH: u32 = 64;
 ///
 /// `WriteFault` if the writer fails. A batch whose lines fail was served, and part of them may be
 /// written.
-pub fn serve_turns<R: Clock + Eprint, B: GroupCommit, L: Link, D: Days, W: Write>(
+pub fn serve_turns<R: Clock + Eprint, B: GroupCommit + LastFailure, L: Link, D: Days, W: Write>(
     rt: &R,
     alloc: Global,
     server: &mut Server<B>,
@@ -59,23 +61,25 @@ pub fn serve_turns<R: Clock + Eprint, B: GroupCommit, L: Link, D: Days, W: Write
     ensures given { day ≢ None → result ≢ Ok JobStatus.Failed }
     ensures led { LeadsTo L.step link.old link.new }
 {
-    let mut log = DropLog::new(rt);
+    let mut drops = DropLog::new(rt);
+    let mut failures = FailureLog::new(rt);
     let mut done = 0;
     while done < count {
         let Some(today) = next_day(days, day) else {
             return fail_by_clock(out);
         };
         let most = (count - done).min(MAX_BATCH);
-        done += serve_batched(&mut log, alloc, server, link, today, most, out)?;
+        done += serve_batched(&mut drops, alloc, server, link, today, most, out)?;
+        failures.eprint_change(server.book().last_failure());
     }
-    log.eprint_rest();
+    drops.eprint_rest();
     Ok(JobStatus::Done)
 }
 
 // Serves one batch, prints its turns, and returns the number of turns. If the batch cannot be
 // allocated, one datagram is handled without allocating.
 fn serve_batched<R: Clock + Eprint, B: GroupCommit, L: Link, W: Write>(
-    log: &mut DropLog<'_, R>,
+    drops: &mut DropLog<'_, R>,
     alloc: Global,
     server: &mut Server<B>,
     link: &mut L,
@@ -92,12 +96,12 @@ fn serve_batched<R: Clock + Eprint, B: GroupCommit, L: Link, W: Write>(
 {
     match serve_batch(alloc, server, link, day, most) {
         Ok(turns) => {
-            print_turns(log, &turns, out)?;
+            print_turns(drops, &turns, out)?;
             Ok(turns.len() as u32)
         }
         Err(_) => {
             let turn = serve_batch_of_one(server, link, day);
-            print_turns(log, &[turn], out)?;
+            print_turns(drops, &[turn], out)?;
             Ok(1)
         }
     }
@@ -105,7 +109,7 @@ fn serve_batched<R: Clock + Eprint, B: GroupCommit, L: Link, W: Write>(
 
 // Prints the lines of turns and flushes them, and logs the dropped datagrams.
 fn print_turns<R: Clock + Eprint, W: Write>(
-    log: &mut DropLog<'_, R>,
+    drops: &mut DropLog<'_, R>,
     turns: &[Turn],
     out: &mut W,
 ) -> Result<(), WriteFault>
@@ -113,10 +117,10 @@ fn print_turns<R: Clock + Eprint, W: Write>(
         (flat_map turn_line turns.now)) }
 {
     for turn in turns {
-        log.count(turn);
+        drops.count(turn);
         write_turn(turn, out)?;
     }
-    log.eprint_if_due();
+    drops.eprint_if_due();
     let Ok(()) = out.flush() else {
         return Err(WriteFault);
     };

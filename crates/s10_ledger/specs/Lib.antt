@@ -2,5 +2,6 @@ pub mod TableLayout
 pub mod Ledger
 pub mod Found
 pub mod Pending
+pub mod Faults
 pub mod Refusals
 pub mod AllRows

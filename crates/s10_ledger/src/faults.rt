@@ -1,6 +1,6 @@
 //! The fault of a book, or of an opening, that an error of a statement becomes.
 
-ghost use Rattle.std.specs.Prelude.{◌≡◌, ◌≢◌, ◌↔◌, ◌⊎◌};
+ghost use Rattle.std.specs.Prelude.{◌≡◌, ◌≢◌, ◌↔◌, ◌⊎◌, Some};
 ghost use Rattle.s10_book.specs.declared.book_fault.BookFault.TheVariants.{Full};
 ghost use Rattle.s10_rows.specs.Tables.{Tables};
 ghost use Rattle.s10_replay.specs.CheckedTables.{IsRefusal};
@@ -20,6 +20,17 @@ pub(crate) fn fault_of(error: Error) -> BookFault
         Error::SqliteFailure(ErrorCode::OutOfMemory) => BookFault::Memory,
         _ => BookFault::Store,
     }
+}
+
+// Keeps the error as the last failure, and returns its fault.
+pub(crate) fn keep_failure(last_failure: &mut Option<Error>, error: Error) -> BookFault
+    ensures not_full { result ≢ Full }
+    ensures memory { (result ≡ BookFault.Memory)
+        ↔ (error ≡ Error.SqliteFailure ErrorCode.OutOfMemory) }
+    ensures kept { last_failure.new ≡ Some error }
+{
+    *last_failure = Some(error);
+    fault_of(error)
 }
 
 // Returns the fault of the opening, for an error of a statement that should succeed.

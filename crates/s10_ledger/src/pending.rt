@@ -1,6 +1,6 @@
 //! The pending calls: appends a call to them, and commits them, with one more call or without.
 
-ghost use Rattle.std.specs.Prelude.{◌≡◌, ◌≢◌, ◌⊎◌, ◌<◌, ◌≤◌, ◌++◌, ◌∷◌, [], List, length, Err};
+ghost use Rattle.std.specs.Prelude.{◌≡◌, ◌≢◌, ◌⊎◌, ◌<◌, ◌≤◌, ◌++◌, ◌∷◌, [], List, length, Err, None};
 ghost use Rattle.std.specs.Prelude.{IsTrue, IfOk, IfErr, OnOk, OnErr};
 ghost use Rattle.std.specs.List.{list_any};
 ghost use Rattle.sqlite_trees.specs.Tree.{Trees};
@@ -20,22 +20,24 @@ ghost use Rattle.s10_rows.specs.Tables.{Tables};
 ghost use Rattle.s10_wire.specs.Kind.{fits};
 ghost use Rattle.s10_statements.specs.ConnectionState.{IsQuiescent};
 ghost use Rattle.s10_statements.specs.Shown.{HasTables};
+ghost use Rattle.s10_ledger.specs.Faults.{IsReasonFor};
 ghost use Rattle.s10_ledger.specs.Pending.{calls_of, IsWriteOf, IsWrittenWith};
 
-use crate::faults::fault_of;
+use crate::faults::keep_failure;
 use s10_book::BookFault;
 use s10_history::Entry;
 use s10_index::{CallIndex, call_write};
 use s10_rows::CallWrite;
 use s10_statements::commit_rows;
-use sqlite::{Alter, Connection};
+use sqlite::{Alter, Connection, Error};
 use std::alloc::Global;
 
 // Commits the pending calls in one transaction: all of them, and then none is pending, or none of
-// them.
+// them. The last failure is then the reason.
 pub(crate) fn commit_calls<S: Alter>(
     conn: &mut Connection<S>,
     pending: &mut Vec<CallWrite>,
+    last_failure: &mut Option<Error>,
 ) -> Result<(), BookFault>
     requires settled { IsQuiescent S.Store conn.old }
     ensures settled { IsQuiescent S.Store conn.new }
@@ -60,13 +62,16 @@ pub(crate) fn commit_calls<S: Alter>(
         ⊎ ((before after : Tables) → AreWritten pending.old.items before after
         → HasTables (state S.Store conn.old).now before
         → HasTables (record (state S.Store conn.old).now { trees = db }) after) }
+    ensures works { OnOk result (last_failure.new ≡ None) }
+    ensures reason { IfErr result (IsReasonFor last_failure.new) }
 {
     match commit_rows(conn, pending) {
         Ok(()) => {
             pending.clear();
+            *last_failure = None;
             Ok(())
         }
-        Err(error) => Err(fault_of(error)),
+        Err(error) => Err(keep_failure(last_failure, error)),
     }
 }
 
@@ -143,6 +148,7 @@ pub(crate) fn keep_call<S: Alter>(
     conn: &mut Connection<S>,
     index: &mut CallIndex,
     pending: &mut Vec<CallWrite>,
+    last_failure: &mut Option<Error>,
     limit: u32,
     entry: Entry,
 ) -> Result<(), BookFault>
@@ -178,12 +184,13 @@ pub(crate) fn keep_call<S: Alter>(
         ⊎ IsWrittenWith (state S.Store conn.old).now
         (record (state S.Store conn.old).now { trees = db }) index.old pending.old.items
         entry }
+    ensures works { OnOk result (last_failure.new ≡ None) }
 {
     let last = prepared_write(alloc, index, limit, &entry)?;
     if pending.push(last).is_err() {
         return Err(BookFault::Memory);
     }
-    if let Err(fault) = commit_calls(conn, pending) {
+    if let Err(fault) = commit_calls(conn, pending, last_failure) {
         let _ = pending.pop();
         return Err(fault);
     }

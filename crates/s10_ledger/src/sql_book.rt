@@ -11,13 +11,13 @@ use crate::faults::opening_fault;
 use crate::lookups::{ask, usage_in};
 use crate::pending::{append_pending, commit_calls, is_pending, keep_call};
 use crate::refused::Refused;
-use s10_book::{Book, BookFault, Faults, GroupCommit};
+use s10_book::{Book, BookFault, Faults, GroupCommit, LastFailure};
 use s10_core::Id;
 use s10_history::{Candidate, Entry, HolderKey, Issue, Range, SerialSpan, Settings, Usage};
 use s10_index::CallIndex;
 use s10_rows::{CallWrite, OpenFault};
 use s10_statements::{NoObserver, Observer, create_tables, refusal_of};
-use sqlite::{Alter, Connection, MemStore};
+use sqlite::{Alter, Connection, Error, MemStore};
 use std::alloc::Global;
 use std::marker::Model;
 
@@ -45,6 +45,8 @@ pub struct SqlBook<S: Alter> {
     // Whether the connection answered the last statement. If not, a read asks it again before it
     // returns.
     answered: bool,
+    // Why a statement failed last, until a commit succeeds.
+    last_failure: Option<Error>,
 }
 
 impl<S: Alter> Model for SqlBook<S> {
@@ -176,6 +178,7 @@ impl<S: Alter> SqlBook<S> {
             index,
             pending: Vec::new(alloc),
             answered: true,
+            last_failure: None,
         }
     }
 
@@ -251,6 +254,7 @@ impl<S: Alter> SqlBook<S> {
             index: _,
             pending: _,
             answered: _,
+            last_failure: _,
         } = self;
         conn
     }
@@ -337,7 +341,7 @@ impl<S: Alter> SqlBook<S> {
         if self.answered {
             return Ok(());
         }
-        let asked = ask(&mut self.conn);
+        let asked = ask(&mut self.conn, &mut self.last_failure);
         let answered = asked.is_ok();
         self.answered = answered;
         counted(&mut self.faults, asked)
@@ -355,7 +359,7 @@ impl<S: Alter> SqlBook<S> {
             → OnErr result (committed_of S.Store self.new ≡ committed_of S.Store self.old) }
         ensures none_pending { OnOk result (self.new.pending ≡ []) }
     {
-        let written = commit_calls(&mut self.conn, &mut self.pending);
+        let written = commit_calls(&mut self.conn, &mut self.pending, &mut self.last_failure);
         let answered = written.is_ok();
         self.answered = answered;
         counted(&mut self.faults, written)
@@ -374,9 +378,7 @@ impl<S: Alter> SqlBook<S> {
             → OnErr result (committed_of S.Store self.new ≡ committed_of S.Store self.old) }
         ensures none_pending { OnOk result (self.new.pending ≡ []) }
     {
-        if let Err(fault) = self.ask_again() {
-            return Err(fault);
-        }
+        self.ask_again()?;
         if self.pending.is_empty() {
             return Ok(());
         }
@@ -471,6 +473,7 @@ impl<S: Alter> SqlBook<S> {
             &mut self.conn,
             &mut self.index,
             &mut self.pending,
+            &mut self.last_failure,
             limit,
             entry,
         );
@@ -495,7 +498,14 @@ impl<S: Alter> SqlBook<S> {
     {
         let interval = self.settings.interval();
         let day = self.index.day().max(day);
-        let found = usage_in(self.alloc, &mut self.conn, range, day, interval);
+        let found = usage_in(
+            self.alloc,
+            &mut self.conn,
+            &mut self.last_failure,
+            range,
+            day,
+            interval,
+        );
         let answered = found.is_ok();
         self.answered = answered;
         counted(&mut self.faults, found)
@@ -595,37 +605,27 @@ impl<S: Alter> Book for SqlBook<S> {
     }
 
     fn find(&mut self, customer: u32, number: u32) -> Result<Option<Entry>, BookFault> {
-        if let Err(fault) = self.ask_again() {
-            return Err(fault);
-        }
+        self.ask_again()?;
         Ok(self.index.find(customer, number))
     }
 
     fn entry(&mut self, at: u32) -> Result<Option<Entry>, BookFault> {
-        if let Err(fault) = self.ask_again() {
-            return Err(fault);
-        }
+        self.ask_again()?;
         Ok(self.index.entry(at))
     }
 
     fn range(&mut self, num: u32) -> Result<Option<Range>, BookFault> {
-        if let Err(fault) = self.ask_again() {
-            return Err(fault);
-        }
+        self.ask_again()?;
         Ok(self.index.ranges().range_by_number(num))
     }
 
     fn closed(&mut self, num: u32) -> Result<bool, BookFault> {
-        if let Err(fault) = self.ask_again() {
-            return Err(fault);
-        }
+        self.ask_again()?;
         Ok(self.index.ranges().is_closed(num))
     }
 
     fn next_range(&mut self, held: &HolderKey, after: u32) -> Result<Option<Range>, BookFault> {
-        if let Err(fault) = self.ask_again() {
-            return Err(fault);
-        }
+        self.ask_again()?;
         let next = self
             .index
             .ranges()
@@ -634,9 +634,7 @@ impl<S: Alter> Book for SqlBook<S> {
     }
 
     fn covering(&mut self, span: &SerialSpan) -> Result<Option<Range>, BookFault> {
-        if let Err(fault) = self.ask_again() {
-            return Err(fault);
-        }
+        self.ask_again()?;
         let found = self
             .index
             .ranges()
@@ -645,23 +643,17 @@ impl<S: Alter> Book for SqlBook<S> {
     }
 
     fn last_issue(&mut self, id: &Id) -> Result<Option<Issue>, BookFault> {
-        if let Err(fault) = self.ask_again() {
-            return Err(fault);
-        }
+        self.ask_again()?;
         Ok(self.index.last_issue(id))
     }
 
     fn candidate(&mut self, range: &Range) -> Result<Candidate, BookFault> {
-        if let Err(fault) = self.ask_again() {
-            return Err(fault);
-        }
+        self.ask_again()?;
         Ok(self.index.candidate_after(range, 0))
     }
 
     fn candidate_after(&mut self, range: &Range, issued: u8) -> Result<Candidate, BookFault> {
-        if let Err(fault) = self.ask_again() {
-            return Err(fault);
-        }
+        self.ask_again()?;
         Ok(self.index.candidate_after(range, issued))
     }
 
@@ -701,5 +693,13 @@ impl<S: Alter> Book for SqlBook<S> {
             Ok(()) => self.keep_with_pending(entry),
             Err(fault) => Err(fault),
         }
+    }
+}
+
+impl<S: Alter> LastFailure for SqlBook<S> {
+    type Reason = Error;
+
+    fn last_failure(&self) -> Option<Error> {
+        self.last_failure
     }
 }

@@ -7,7 +7,7 @@ ghost use Rattle.s10_jobs.specs.Serving.{ServesTurns};
 ghost use Rattle.s10_sockets.specs.Unbound.{IsUnbound};
 
 use crate::binding::bind_link;
-use s10_book::GroupCommit;
+use s10_book::{GroupCommit, LastFailure};
 use s10_ends::{Server, UdpLink};
 use s10_jobs::{Days, JobStatus, fail_by_link, serve_turns};
 use s10_lines::WriteFault;
@@ -38,7 +38,7 @@ pub fn serve_at<R, B, D, W>(
 ) -> (Result<JobStatus, WriteFault>, Option<UdpLink>, B)
 where
     R: Net + Clock + Eprint,
-    B: GroupCommit,
+    B: GroupCommit + LastFailure,
     D: Days,
     W: Write,
     ensures unbound { result.1 ≡ None → IsUnbound book result.2 (W.contents out.old)

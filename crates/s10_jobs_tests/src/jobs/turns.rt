@@ -3,7 +3,7 @@
 use crate::expect::holds;
 use crate::jobs::hiccup::Hiccup;
 use crate::links::{Meets, link_of};
-use s10_book::{Book, GroupCommit, PlainBook};
+use s10_book::{Book, GroupCommit, LastFailure, PlainBook, TripBook};
 use s10_ends::Server;
 use s10_history::Settings;
 use s10_jobs::{ClockDays, Days, JobStatus, next_day, serve_turns, today};
@@ -197,7 +197,7 @@ fn has_lines(out: Flushed, turns: &Turns<'_>) -> bool {
 
 /// Returns whether the turns of a server over the link have their status, and write and flush their
 /// lines.
-fn are_as_expected<R: Clock + Eprint, B: GroupCommit, L: Link>(
+fn are_as_expected<R: Clock + Eprint, B: GroupCommit + LastFailure, L: Link>(
     rt: &R,
     alloc: Global,
     server: &mut Server<B>,
@@ -402,6 +402,47 @@ fn a_sender_is_named_once_in_a_minute(rt: HostRuntime) {
     }
 }
 
+/// Returns whether standard error shows this over seven turns of a server, the call `at` of whose
+/// book fails.
+fn is_shown_of_a_failure(alloc: Global, at: u64, told: &str) -> bool {
+    let Ok(mut link) = link_of(alloc, SEVEN, THREE_SENDS) else {
+        return false;
+    };
+    let book = PlainBook::new(alloc, Settings::new(30, 2).unwrap());
+    let mut server = Server::new(TripBook::new(book, at));
+    let rt = Listening::new(alloc, 1);
+    let mut days = ClockDays { clock: &rt };
+    let mut out = Vec::new(alloc);
+    let served = serve_turns(
+        &rt,
+        alloc,
+        &mut server,
+        &mut link,
+        &mut days,
+        7,
+        Some(20_000),
+        &mut out,
+    );
+    served == Ok(JobStatus::Done) && rt.told.into_inner().as_slice() == told.as_bytes()
+}
+
+/// The call of the book that fails, and what standard error shows. The first call reads for the
+/// first turn; the datagram that is dropped comes later.
+const FAILURES: &[(u64, &str)] = &[
+    (
+        0,
+        "cannot use the ledger: store\ndropped from 10.0.0.7:4711\n",
+    ),
+    (1_000, "dropped from 10.0.0.7:4711\n"),
+];
+
+#[test]
+fn a_failure_of_the_book_is_named_once(rt: HostRuntime) {
+    for (at, told) in FAILURES {
+        holds(&rt, at, is_shown_of_a_failure(rt.alloc(), *at, told));
+    }
+}
+
 #[test]
 fn a_closed_standard_error_ends_no_turn(rt: HostRuntime) {
     assert!(rt; are_served(&Standing(None), rt.alloc(), &first_turns(7, 4, 2)));
@@ -513,7 +554,7 @@ fn has_beginning(out: Hiccup, room: usize) -> bool {
 
 /// Returns whether the turns of a server fail at a line that cannot be written whole. The writer
 /// must have exactly the first `room` bytes of the lines then.
-fn end_where_unwritten<R: Clock + Eprint, B: GroupCommit, L: Link>(
+fn end_where_unwritten<R: Clock + Eprint, B: GroupCommit + LastFailure, L: Link>(
     alloc: Global,
     rt: &R,
     server: &mut Server<B>,

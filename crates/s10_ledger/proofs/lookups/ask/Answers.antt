@@ -17,5 +17,5 @@ returns-clause-store g c = λ clean opened has is. elim c.match-prepare.branch [
       fails_for (state g.S.Store c.args.conn.now) (state g.S.Store c.prepare.new.self) ask_sql
       w.in-Err.error (known_ask (state g.S.Store c.args.conn.now).now.schema has)
       (w.in-Err.ensures.err clean []) opened
-      (λ lack. not_memory w.fault_of.result _ w.result-is is (w.fault_of.ensures.memory.1 lack))
+      (λ lack. not_memory w.keep_failure.result _ w.result-is is (w.keep_failure.ensures.memory.1 lack))
 ]
