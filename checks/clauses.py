@@ -33,7 +33,7 @@ def read(commit, path):
 def sources(commit):
     """The source files of a commit, without those of tests."""
     names = git("ls-tree", "-r", "--name-only", commit) if commit else git("ls-files", "-co", "--exclude-standard")
-    return [it for it in names.split("\n") if re.match(r"crates/(?!\w+_tests/)\w+/src/.*\.rt$", it)]
+    return [it for it in names.split("\n") if re.match(r"crates/(?!\w+_tests/|s10_test_help/)\w+/src/.*\.rt$", it)]
 
 
 def moved(old, new):

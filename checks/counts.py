@@ -33,7 +33,7 @@ def pages():
 
 def folders():
     """The folders of the crates, without those of tests."""
-    return [it for it in sorted(CRATES.iterdir()) if (it / "src").is_dir() and not it.name.endswith("_tests")]
+    return [it for it in sorted(CRATES.iterdir()) if (it / "src").is_dir() and not it.name.endswith(("_tests", "_test_help"))]
 
 
 def sources(names):
