@@ -4,8 +4,4 @@
 #[cfg(test)]
 mod book;
 #[cfg(test)]
-mod expect;
-#[cfg(test)]
-mod hiccup;
-#[cfg(test)]
 mod wire;

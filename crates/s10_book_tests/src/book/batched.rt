@@ -1,9 +1,9 @@
 //! Books that commit calls only on request, and the books in them.
 
-use crate::book::books::{NINE_CALLS, first_wrong_step};
 use crate::book::both_books::{have_equal_calls_and_reports, indexed_book, plain_book};
-use crate::expect::same;
 use s10_book::{Batched, Book, BookFault, GroupCommit};
+use s10_test_help::expect::same;
+use s10_test_help::steps::{NINE_CALLS, first_wrong_step};
 
 /// The days on which both books must give equal reports.
 const DAYS: &[u32] = &[20000, 20029, 20030, 20060];
@@ -33,8 +33,8 @@ fn batched_books_give_the_answers_of_the_books_in_them(rt: HostRuntime) {
     let mut indexed = Batched::new(indexed_book(rt.alloc()));
     let found = (nine_calls_of(&mut plain), nine_calls_of(&mut indexed));
     let wanted = (None, 9, Ok(()));
-    same(&rt, &"answers", &found, &(wanted, wanted));
+    assert!(rt; same(&rt, &"answers", &found, &(wanted, wanted)));
     let committed = (are_committed(&plain), are_committed(&indexed));
-    same(&rt, &"committed", &committed, &([true; 3], [true; 3]));
+    assert!(rt; same(&rt, &"committed", &committed, &([true; 3], [true; 3])));
     have_equal_calls_and_reports(&rt, plain, indexed.into_inner(), 10, DAYS);
 }

@@ -1,10 +1,10 @@
 //! Comparison of the book with an index and the book without.
 
-use crate::expect::same;
 use s10_book::{Book, PlainBook};
 use s10_history::Settings;
 use s10_index::IndexedBook;
 use s10_reports::{ReportFault, write_issues, write_ranges};
+use s10_test_help::expect::same;
 use std::alloc::Global;
 use std::process::Abort;
 
@@ -73,13 +73,11 @@ fn unlike<A: Book + Drop, B: Book + Drop>(
 }
 
 /// Asserts that two books have equal calls up to number `last` and equal reports on these days.
-pub(crate) fn have_equal_calls_and_reports<R: Abort + AllocGlobal, A: Book + Drop, B: Book + Drop>(
-    rt: &R,
-    one: A,
-    other: B,
-    last: u32,
-    days: &[u32],
-) {
+pub(crate) fn have_equal_calls_and_reports<
+    R: Abort + Eprint + AllocGlobal,
+    A: Book + Drop,
+    B: Book + Drop,
+>(rt: &R, one: A, other: B, last: u32, days: &[u32]) {
     let found = unlike(rt.alloc(), one, other, last, days);
-    same(rt, &"books", &found, &(None, Ok(None)));
+    assert!(rt; same(rt, &"books", &found, &(None, Ok(None))));
 }

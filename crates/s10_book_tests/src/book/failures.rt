@@ -1,10 +1,12 @@
 //! Books that fail at one of their calls, and succeed when the request is repeated.
 
-use crate::book::books::{
-    Answered, Asked, FOUR_CALLS, ONE_CALL, OPENING, Step, THREE_CALLS, TWO_CALLS, answer,
-    empty_book, is_as_answered, request,
-};
+use crate::book::books::empty_book;
 use s10_book::{Book, BookFault, PlainBook, TripBook};
+use s10_test_help::answered::Answered;
+use s10_test_help::asked::Asked;
+use s10_test_help::steps::{
+    FOUR_CALLS, ONE_CALL, OPENING, Step, THREE_CALLS, TWO_CALLS, answer, request,
+};
 use s10_wire::Status;
 use std::alloc::Global;
 use std::process::Abort;
@@ -37,12 +39,9 @@ fn is_answered_after_retry<B: Book>(book: &mut B, step: &Step) -> (bool, bool) {
     let request = request(customer, number, asked);
     let first = answer(book, &request, day);
     if first == Err(BookFault::Store) {
-        (
-            is_as_answered(&answer(book, &request, day), &answered),
-            true,
-        )
+        (answered.is(&answer(book, &request, day)), true)
     } else {
-        (is_as_answered(&first, &answered), false)
+        (answered.is(&first), false)
     }
 }
 

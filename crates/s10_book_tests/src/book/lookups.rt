@@ -3,29 +3,29 @@
 use crate::book::granted::{
     Granted, all_granted, country, grant, numbered, range, serial, service, withdraw,
 };
-use crate::expect::same;
 use s10_ranges::Ranges;
+use s10_test_help::expect::same;
 use s10_wire::Outcome;
 use std::process::Abort;
 
 /// Asserts that the numbers 1 to 7 give the ranges that were granted, and 0 and 8 give none.
-fn are_numbered(rt: &impl Abort, ranges: &Ranges) {
+fn are_numbered(rt: &(impl Abort + Eprint), ranges: &Ranges) {
     for num in 0..9u32 {
-        same(rt, &num, &ranges.range_by_number(num), &numbered(rt, num));
+        assert!(rt; same(rt, &num, &ranges.range_by_number(num), &numbered(rt, num)));
     }
 }
 
 /// Asserts that the next open range of RA GB of the customer after `after` is range `want`, 0 for
 /// none.
-fn has_next(rt: &impl Abort, ranges: &Ranges, customer: u32, after: u32, want: u32) {
+fn has_next(rt: &(impl Abort + Eprint), ranges: &Ranges, customer: u32, after: u32, want: u32) {
     let ra = service(rt, *b"RA");
     let gb = country(rt, *b"GB");
     let found = ranges.next_open_range(customer, ra, gb, after);
-    same(rt, &(customer, after), &found, &numbered(rt, want));
+    assert!(rt; same(rt, &(customer, after), &found, &numbered(rt, want)));
 }
 
 /// Asserts it for each row: customer, number after which to look, and expected number.
-fn have_next(rt: &impl Abort, ranges: &Ranges, wanted: &[(u32, u32, u32)]) {
+fn have_next(rt: &(impl Abort + Eprint), ranges: &Ranges, wanted: &[(u32, u32, u32)]) {
     for (customer, after, want) in wanted {
         has_next(rt, ranges, *customer, *after, *want);
     }
@@ -34,7 +34,7 @@ fn have_next(rt: &impl Abort, ranges: &Ranges, wanted: &[(u32, u32, u32)]) {
 /// Asserts that the range of least number with a serial from `first` to `last` is range `want`, 0
 /// for none.
 fn has_covering(
-    rt: &impl Abort,
+    rt: &(impl Abort + Eprint),
     ranges: &Ranges,
     letters: [u8; 2],
     code: [u8; 2],
@@ -45,7 +45,7 @@ fn has_covering(
     let service = service(rt, letters);
     let country = country(rt, code);
     let found = ranges.covering_range(service, country, serial(rt, first), serial(rt, last));
-    same(rt, &(first, last), &found, &numbered(rt, want));
+    assert!(rt; same(rt, &(first, last), &found, &numbered(rt, want)));
 }
 
 #[test]
@@ -87,10 +87,10 @@ fn three_closed<R: Abort + AllocGlobal>(rt: &R) -> Ranges {
 }
 
 /// Asserts that only ranges 2, 3 and 5 are closed.
-fn are_closed(rt: &impl Abort, ranges: &Ranges) {
+fn are_closed(rt: &(impl Abort + Eprint), ranges: &Ranges) {
     for num in 0..9u32 {
         let is_closed = num == 2 || num == 3 || num == 5;
-        same(rt, &num, &ranges.is_closed(num), &is_closed);
+        assert!(rt; same(rt, &num, &ranges.is_closed(num), &is_closed));
     }
 }
 
@@ -142,7 +142,7 @@ const COVERING: &[(u32, u32, u32)] = &[
 ];
 
 /// Asserts that the ranges of RA GB are found by their serials, as `COVERING` says.
-fn are_covering(rt: &impl Abort, ranges: &Ranges) {
+fn are_covering(rt: &(impl Abort + Eprint), ranges: &Ranges) {
     for (first, last, want) in COVERING {
         has_covering(rt, ranges, *b"RA", *b"GB", *first, *last, *want);
     }
@@ -171,10 +171,10 @@ fn no_range_is_found_without_ranges(rt: HostRuntime) {
 }
 
 /// Asserts that after this Grant there is no range 8.
-fn is_left_out<R: Abort + AllocGlobal>(rt: &R, num: u32, granted: Granted) {
+fn is_left_out<R: Abort + Eprint + AllocGlobal>(rt: &R, num: u32, granted: Granted) {
     let mut ranges = all_granted(rt);
     grant(rt, &mut ranges, &range(rt, num, granted));
-    same(rt, &granted, &ranges.range_by_number(8), &None);
+    assert!(rt; same(rt, &granted, &ranges.range_by_number(8), &None));
 }
 
 // A Grant that overlaps, one whose number is not the next, and one whose last serial is below its

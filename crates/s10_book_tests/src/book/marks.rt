@@ -1,21 +1,21 @@
 //! Marks of ranges.
 
 use crate::book::granted::{all_granted, draw, serial, withdraw};
-use crate::expect::same;
 use s10_ranges::{Lap, Mark, Ranges};
+use s10_test_help::expect::same;
 use s10_wire::Outcome;
 use std::process::Abort;
 
-fn has_mark(rt: &impl Abort, ranges: &Ranges, num: u32, mark: u32, lap: Lap) {
+fn has_mark(rt: &(impl Abort + Eprint), ranges: &Ranges, num: u32, mark: u32, lap: Lap) {
     let mark = Mark {
         serial: serial(rt, mark),
         lap,
     };
-    same(rt, &num, &ranges.mark(num), &Some(mark));
+    assert!(rt; same(rt, &num, &ranges.mark(num), &Some(mark)));
 }
 
 /// Asserts the mark of each range, all in their first lap.
-fn have_marks(rt: &impl Abort, ranges: &Ranges, marks: &[(u32, u32)]) {
+fn have_marks(rt: &(impl Abort + Eprint), ranges: &Ranges, marks: &[(u32, u32)]) {
     for (num, mark) in marks {
         has_mark(rt, ranges, *num, *mark, Lap::First);
     }

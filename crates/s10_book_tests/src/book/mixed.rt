@@ -2,10 +2,11 @@
 
 ghost use Rattle.std.specs.Prelude.{◌≤◌, ◌<◌};
 
-use crate::book::books::{Asked, answer, request};
 use crate::book::both_books::{have_equal_calls_and_reports, indexed_book, plain_book};
-use crate::expect::same;
 use s10_book::Book;
+use s10_test_help::asked::Asked;
+use s10_test_help::expect::same;
+use s10_test_help::steps::{answer, request};
 use s10_wire::{Outcome, Request};
 
 const PASSES: u32 = 60;
@@ -147,6 +148,6 @@ fn both_books_give_equal_answers_to_mixed_calls(rt: HostRuntime) {
     let mut plain = plain_book(rt.alloc());
     let mut indexed = indexed_book(rt.alloc());
     let alike = passes_agree(&mut plain, &mut indexed);
-    same(&rt, &"passes", &alike, &(PASSES, [true; 17]));
+    assert!(rt; same(&rt, &"passes", &alike, &(PASSES, [true; 17])));
     have_equal_calls_and_reports(&rt, plain, indexed, 12 * PASSES, &[20_100]);
 }

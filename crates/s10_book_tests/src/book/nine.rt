@@ -1,11 +1,11 @@
 //! The nine calls over the book with an index and the book without.
 
-use crate::book::books::{
-    Answered, Asked, NINE_CALLS, Step, answer, first_wrong_step, is_as_answered, request,
-};
 use crate::book::both_books::{have_equal_calls_and_reports, indexed_book, plain_book};
-use crate::expect::same;
 use s10_book::Book;
+use s10_test_help::answered::Answered;
+use s10_test_help::asked::Asked;
+use s10_test_help::expect::same;
+use s10_test_help::steps::{NINE_CALLS, Step, answer, first_wrong_step, request};
 use s10_wire::Status;
 
 /// Executes the nine calls. Returns the index of the first whose answer differs from its row, if
@@ -27,7 +27,7 @@ fn nine_calls_are_answered_as_worked_by_hand(rt: HostRuntime) {
     let mut plain = plain_book(rt.alloc());
     let mut indexed = indexed_book(rt.alloc());
     let found = (nine_calls_of(&mut plain), nine_calls_of(&mut indexed));
-    same(&rt, &"answers", &found, &((None, 9), (None, 9)));
+    assert!(rt; same(&rt, &"answers", &found, &((None, 9), (None, 9))));
     have_equal_calls_and_reports(&rt, plain, indexed, 10, DAYS);
 }
 
@@ -73,13 +73,13 @@ fn reported_after_nine_calls<B: Book + Drop>(mut book: B) -> ((Option<usize>, u3
 #[test]
 fn the_last_issue_of_each_serial_is_reported(rt: HostRuntime) {
     let found = reported_after_nine_calls(indexed_book(rt.alloc()));
-    same(&rt, &"serial", &found, &((None, 9), None));
+    assert!(rt; same(&rt, &"serial", &found, &((None, 9), None)));
 }
 
 #[test]
 fn nine_calls_with_ample_memory_are_kept_at_once(rt: HostRuntime) {
     let found = nine_calls_of_new(indexed_book(rt.alloc()));
-    same(&rt, &"at once", &found, &(None, 9));
+    assert!(rt; same(&rt, &"at once", &found, &(None, 9)));
 }
 
 /// Executes a step, and again if it failed and no call was kept. Returns whether the answer is that
@@ -92,7 +92,7 @@ fn is_right_after_retry<B: Book>(book: &mut B, step: &Step) -> bool {
     if found.is_err() && book.len() == kept {
         found = answer(book, &request, *day);
     }
-    is_as_answered(&found, answered)
+    answered.is(&found)
 }
 
 /// Executes the nine calls, each again if it failed. Returns the index of the first whose answer
@@ -109,5 +109,5 @@ fn nine_calls_with_retries<B: Book + Drop>(mut book: B) -> (Option<usize>, u32) 
 #[test]
 fn a_retry_succeeds_after_a_failed_allocation(rt: HostRuntime) {
     let found = nine_calls_with_retries(indexed_book(rt.alloc()));
-    same(&rt, &"at last", &found, &(None, 9));
+    assert!(rt; same(&rt, &"at last", &found, &(None, 9)));
 }

@@ -1,8 +1,8 @@
 //! The size of a range, and its serials in order.
 
-use crate::book::books::{gb, ra, serial};
-use crate::expect::same;
 use s10_history::Range;
+use s10_test_help::expect::same;
+use s10_test_help::samples::{gb, ra, serial};
 
 fn range(first: u32, last: u32) -> Range {
     Range {
@@ -39,7 +39,7 @@ const SIZES: &[(u32, u32, u32)] = &[
 #[test]
 fn a_range_has_its_last_serial_too(rt: HostRuntime) {
     for (first, last, size) in SIZES {
-        same(&rt, &(first, last), &range(*first, *last).size(), size);
+        assert!(rt; same(&rt, &(first, last), &range(*first, *last).size(), size));
     }
 }
 
@@ -65,6 +65,6 @@ const AFTER: &[(u32, u32, u32, u8, u32)] = &[
 fn after_its_last_serial_a_range_gives_its_first(rt: HostRuntime) {
     for (first, last, from, count, serial) in AFTER {
         let found = serial_after(*first, *last, *from, *count);
-        same(&rt, &(first, last, from, count), &found, &Some(*serial));
+        assert!(rt; same(&rt, &(first, last, from, count), &found, &Some(*serial)));
     }
 }

@@ -1,10 +1,11 @@
 //! Reads of a book.
 
-use crate::book::books::{
-    Asked, SIX_CALLS, THREE_MORE, book_after, execute_steps, gb, id, ra, request, serial,
-};
+use crate::book::books::{book_after, execute_steps};
 use s10_book::{Book, PlainBook};
 use s10_history::{Candidate, Entry, HolderKey, Issuance, Issue, Range, SerialSpan, Usage};
+use s10_test_help::asked::Asked;
+use s10_test_help::samples::{gb, id, ra, serial};
+use s10_test_help::steps::{SIX_CALLS, THREE_MORE, request};
 use s10_wire::Outcome;
 use std::process::Abort;
 

@@ -1,12 +1,13 @@
 //! The two reports of a ledger.
 
-use crate::book::books::Answered::{Drawn, DrawnMany, Granted, Voided, Withdrawn};
-use crate::book::books::Asked::{Draw, DrawMany, Grant, Void, Withdraw};
-use crate::book::books::{NINE_CALLS, OPENING, SIX_CALLS, Step, book_after};
-use crate::expect::same;
-use crate::hiccup::Hiccup;
+use crate::book::books::book_after;
 use s10_book::{Book, BookFault, TripBook};
 use s10_reports::{ReportFault, write_issues, write_ranges};
+use s10_test_help::answered::Answered::{Drawn, DrawnMany, Granted, Voided, Withdrawn};
+use s10_test_help::asked::Asked::{Draw, DrawMany, Grant, Void, Withdraw};
+use s10_test_help::expect::same;
+use s10_test_help::hiccup::Hiccup;
+use s10_test_help::steps::{NINE_CALLS, OPENING, SIX_CALLS, Step};
 use std::alloc::Global;
 use std::io::Write;
 use std::process::Abort;
@@ -75,7 +76,12 @@ fn writes<R: Abort + AllocGlobal, B: Book + Drop>(rt: &R, mut book: B, wanted: &
 }
 
 /// Asserts that the reports have these texts after these steps.
-fn are_reported<R: Abort + AllocGlobal>(rt: &R, name: &str, steps: &[Step], wanted: &[Report]) {
+fn are_reported<R: Abort + Eprint + AllocGlobal>(
+    rt: &R,
+    name: &str,
+    steps: &[Step],
+    wanted: &[Report],
+) {
     writes(rt, book_after(rt, name, steps), wanted);
 }
 
@@ -146,7 +152,11 @@ fn stops<B: Book + Drop>(alloc: Global, mut book: B, day: Option<u32>, whole: &[
 
 /// Returns the first call of the book, after the nine calls, whose failure does not stop the
 /// report. The report makes this number of calls.
-fn first_without_failure<R: Abort + AllocGlobal>(rt: &R, day: Option<u32>, whole: &[u8]) -> u64 {
+fn first_without_failure<R: Abort + Eprint + AllocGlobal>(
+    rt: &R,
+    day: Option<u32>,
+    whole: &[u8],
+) -> u64 {
     for at in 0..100u64 {
         let book = TripBook::new(book_after(rt, "nine calls", NINE_CALLS), at);
         if !stops(rt.alloc(), book, day, whole) {
@@ -159,17 +169,21 @@ fn first_without_failure<R: Abort + AllocGlobal>(rt: &R, day: Option<u32>, whole
 // The report of the issues makes 14 calls of the book, and the report of the ranges makes 4.
 #[test]
 fn a_book_that_fails_leaves_whole_lines(rt: HostRuntime) {
-    same(
-        &rt,
-        &"issues",
-        &first_without_failure(&rt, None, ISSUES),
-        &14,
+    assert!(rt;
+        same(
+            &rt,
+            &"issues",
+            &first_without_failure(&rt, None, ISSUES),
+            &14,
+        )
     );
-    same(
-        &rt,
-        &"ranges",
-        &first_without_failure(&rt, Some(20030), RANGES),
-        &4,
+    assert!(rt;
+        same(
+            &rt,
+            &"ranges",
+            &first_without_failure(&rt, Some(20030), RANGES),
+            &4,
+        )
     );
 }
 
@@ -199,10 +213,14 @@ fn first_uncut<B: Book>(alloc: Global, book: &mut B, day: Option<u32>, whole: &[
 }
 
 /// Asserts that every writer with less room than a report has bytes cuts it.
-fn are_cut<R: Abort + AllocGlobal, B: Book + Drop>(rt: &R, mut book: B, reports: &[Report]) {
+fn are_cut<R: Abort + Eprint + AllocGlobal, B: Book + Drop>(
+    rt: &R,
+    mut book: B,
+    reports: &[Report],
+) {
     for (day, whole) in reports {
         let uncut = first_uncut(rt.alloc(), &mut book, *day, whole);
-        same(rt, day, &uncut, &whole.len());
+        assert!(rt; same(rt, day, &uncut, &whole.len()));
     }
 }
 

@@ -1,10 +1,12 @@
 //! Sheets compared with successive single Draws.
 
-use crate::book::books::Answered::{Drawn, Granted, Withdrawn};
-use crate::book::books::Asked::{Draw, Grant, Withdraw};
-use crate::book::books::{OPENING, Step, answer, book_after, gb, id, ra, request, sheet};
-use crate::expect::same;
+use crate::book::books::book_after;
 use s10_book::{Book, successive_draws};
+use s10_test_help::answered::Answered::{Drawn, Granted, Withdrawn};
+use s10_test_help::asked::Asked::{Draw, Grant, Withdraw};
+use s10_test_help::expect::same;
+use s10_test_help::samples::{gb, id, ra, sheet};
+use s10_test_help::steps::{OPENING, Step, answer, request};
 use s10_wire::{Ids, Outcome};
 use std::process::Abort;
 
@@ -55,11 +57,11 @@ fn is_right<B: Book + Drop>(mut book: B, mut other: B, row: &Row) -> bool {
 }
 
 /// Asserts that each row is right after these steps.
-fn are_right<R: Abort + AllocGlobal>(rt: &R, steps: &[Step], rows: &[Row]) {
+fn are_right<R: Abort + Eprint + AllocGlobal>(rt: &R, steps: &[Step], rows: &[Row]) {
     for (place, row) in rows.iter().enumerate() {
         let book = book_after(rt, "for a sheet", steps);
         let other = book_after(rt, "for single Draws", steps);
-        same(rt, &place, &is_right(book, other, row), &true);
+        assert!(rt; same(rt, &place, &is_right(book, other, row), &true));
     }
 }
 

@@ -1,11 +1,13 @@
 //! Which call of a `TripBook` fails.
 
-use crate::book::books::{OPENING, answer, book_after, id, sheet};
-use crate::expect::same;
+use crate::book::books::book_after;
 use s10_book::{Batched, Book, BookFault, GroupCommit, TripBook, decide, successive_draws};
 use s10_core::Id;
 use s10_history::{HolderKey, SerialSpan};
 use s10_reports::{ReportFault, write_ranges};
+use s10_test_help::expect::same;
+use s10_test_help::samples::{id, sheet};
+use s10_test_help::steps::{OPENING, answer};
 use s10_wire::{Body, Request};
 use std::alloc::Global;
 use std::process::Abort;
@@ -183,7 +185,11 @@ fn refused<B: GroupCommit + Drop>(
 }
 
 /// The same for a book that fails at call `at`, counted from 0.
-fn refused_at<R: Abort + AllocGlobal>(rt: &R, question: Question, at: u64) -> Option<[bool; 3]> {
+fn refused_at<R: Abort + Eprint + AllocGlobal>(
+    rt: &R,
+    question: Question,
+    at: u64,
+) -> Option<[bool; 3]> {
     let inner = book_after(rt, "opening", &[OPENING]);
     let book = TripBook::new(inner, at);
     match question {
@@ -194,7 +200,7 @@ fn refused_at<R: Abort + AllocGlobal>(rt: &R, question: Question, at: u64) -> Op
 
 /// Returns the first call, counted from 0, whose failure does not show in the one question that
 /// makes it, if any. Each of the two questions makes n calls, and the third makes one.
-fn first_without_failure<R: Abort + AllocGlobal>(
+fn first_without_failure<R: Abort + Eprint + AllocGlobal>(
     rt: &R,
     question: Question,
     calls: u64,
@@ -213,6 +219,6 @@ fn first_without_failure<R: Abort + AllocGlobal>(
 fn a_trip_book_fails_only_at_its_call(rt: HostRuntime) {
     for (name, question, calls) in QUESTIONS {
         let passed_over = first_without_failure(&rt, *question, *calls);
-        same(&rt, name, &passed_over, &None);
+        assert!(rt; same(&rt, name, &passed_over, &None));
     }
 }

@@ -1,15 +1,17 @@
 //! Withdraws, and calls after them.
 
-use crate::book::books::Answered::{
+use crate::book::books::{all_are_answered, are_answered, book_after};
+use s10_book::{Book, BookFault};
+use s10_history::{HolderKey, Range, SerialSpan};
+use s10_test_help::answered::Answered::{
     AlreadyVoid, Closed, Drawn, DrawnMany, Full, Granted, NoRange, NoSuchRange, NoneFree,
     NotIssued, NotThePost, NotYours, NumberReused, Overlap, Told, Voided, Withdrawn,
 };
-use crate::book::books::Asked::{
+use s10_test_help::asked::Asked::{
     Draw, DrawMany, DrawOfRb, Grant, GrantOfRb, Query, Void, Withdraw,
 };
-use crate::book::books::{OPENING, Step, all_are_answered, are_answered, book_after, gb, id, ra};
-use s10_book::{Book, BookFault};
-use s10_history::{HolderKey, Range, SerialSpan};
+use s10_test_help::samples::{gb, id, ra};
+use s10_test_help::steps::{OPENING, Step};
 use s10_wire::Status;
 use std::process::Abort;
 
@@ -221,14 +223,14 @@ fn open_ranges_are_next<B: Book>(rt: &impl Abort, book: &mut B) {
 /// Serials, and the number of the range that contains each.
 const COVERING: &[(u32, Option<u32>)] = &[(2, Some(1)), (4, Some(2)), (8, Some(3)), (7, None)];
 
-fn all_ranges_cover_their_serials<B: Book>(rt: &impl Abort, book: &mut B) {
+fn all_ranges_cover_their_serials<B: Book>(rt: &(impl Abort + Eprint), book: &mut B) {
     for (value, num) in COVERING {
         assert!(rt; has_covering(book, *value, *num));
     }
 }
 
 /// Asserts that range 2 of three is closed: only the look-up for a Draw skips it.
-fn second_is_closed<B: Book + Drop>(rt: &impl Abort, mut book: B) {
+fn second_is_closed<B: Book + Drop>(rt: &(impl Abort + Eprint), mut book: B) {
     are_closed_as_reported(rt, &mut book);
     open_ranges_are_next(rt, &mut book);
     all_ranges_cover_their_serials(rt, &mut book);

@@ -1,16 +1,16 @@
 //! Datagrams: decoded, encoded, cut short and changed.
 
-use crate::expect::same;
 use crate::wire::vectors::{Asked, Call, Came, outcome, replies, reply, request, requests};
+use s10_test_help::expect::same;
 use s10_wire::{
     Frame, Reply, Request, WireFault, decode_reply, decode_request, encode_reply, encode_request,
 };
 use std::process::Abort;
 
 /// Asserts that these bytes decode to the request, and that it encodes to these bytes.
-fn are_encoded_request(rt: &impl Abort, bytes: &[u8], request: &Request) {
-    same(rt, &bytes, &decode_request(bytes), &Ok(*request));
-    same(rt, &bytes, &encode_request(request).bytes(), &bytes);
+fn are_encoded_request(rt: &(impl Abort + Eprint), bytes: &[u8], request: &Request) {
+    assert!(rt; same(rt, &bytes, &decode_request(bytes), &Ok(*request)));
+    assert!(rt; same(rt, &bytes, &encode_request(request).bytes(), &bytes));
 }
 
 #[test]
@@ -21,9 +21,9 @@ fn requests_decode_and_encode_to_the_same_bytes(rt: HostRuntime) {
 }
 
 /// Asserts that these bytes decode to the reply, and that it encodes to these bytes.
-fn are_encoded_reply(rt: &impl Abort, bytes: &[u8], reply: &Reply) {
-    same(rt, &bytes, &decode_reply(bytes), &Ok(*reply));
-    same(rt, &bytes, &encode_reply(reply).bytes(), &bytes);
+fn are_encoded_reply(rt: &(impl Abort + Eprint), bytes: &[u8], reply: &Reply) {
+    assert!(rt; same(rt, &bytes, &decode_reply(bytes), &Ok(*reply)));
+    assert!(rt; same(rt, &bytes, &encode_reply(reply).bytes(), &bytes));
 }
 
 #[test]
@@ -31,8 +31,8 @@ fn replies_decode_and_encode_to_the_same_bytes(rt: HostRuntime) {
     for (bytes, call, came) in replies() {
         let reply = reply(&rt, bytes, call, came);
         are_encoded_reply(&rt, bytes, &reply);
-        same(&rt, bytes, &reply.request(), &request(&rt, call));
-        same(&rt, bytes, &reply.outcome(), &outcome(&rt, came));
+        assert!(rt; same(&rt, bytes, &reply.request(), &request(&rt, call)));
+        assert!(rt; same(&rt, bytes, &reply.outcome(), &outcome(&rt, came)));
     }
 }
 
@@ -45,18 +45,18 @@ fn cut_at(end: usize) -> WireFault {
 }
 
 /// Asserts that these bytes are no request when cut at any offset.
-fn are_refused_where_cut(rt: &impl Abort, bytes: &[u8]) {
+fn are_refused_where_cut(rt: &(impl Abort + Eprint), bytes: &[u8]) {
     for end in 0..bytes.len() {
         let cut = &bytes[..end];
-        same(rt, &cut, &decode_request(cut), &Err(cut_at(end)));
+        assert!(rt; same(rt, &cut, &decode_request(cut), &Err(cut_at(end))));
     }
 }
 
 /// Asserts that these bytes are no reply when cut at any offset.
-fn are_no_reply_where_cut(rt: &impl Abort, bytes: &[u8]) {
+fn are_no_reply_where_cut(rt: &(impl Abort + Eprint), bytes: &[u8]) {
     for end in 0..bytes.len() {
         let cut = &bytes[..end];
-        same(rt, &cut, &decode_reply(cut), &Err(cut_at(end)));
+        assert!(rt; same(rt, &cut, &decode_reply(cut), &Err(cut_at(end))));
     }
 }
 
@@ -87,7 +87,7 @@ fn reply_again(bytes: &[u8]) -> Option<Frame> {
 }
 
 /// Returns whether these bytes decode, and asserts that the message encodes to the same bytes.
-fn are_read(rt: &impl Abort, bytes: &[u8], is_reply: bool) -> bool {
+fn are_read(rt: &(impl Abort + Eprint), bytes: &[u8], is_reply: bool) -> bool {
     let again = if is_reply {
         reply_again(bytes)
     } else {
@@ -95,7 +95,7 @@ fn are_read(rt: &impl Abort, bytes: &[u8], is_reply: bool) -> bool {
     };
     match again {
         Some(frame) => {
-            same(rt, &bytes, &frame.bytes(), &bytes);
+            assert!(rt; same(rt, &bytes, &frame.bytes(), &bytes));
             true
         }
         None => false,
@@ -103,7 +103,7 @@ fn are_read(rt: &impl Abort, bytes: &[u8], is_reply: bool) -> bool {
 }
 
 /// Returns how many of all changes of one byte still decode.
-fn changes_read(rt: &impl Abort, bytes: &mut [u8], is_reply: bool) -> u32 {
+fn changes_read(rt: &(impl Abort + Eprint), bytes: &mut [u8], is_reply: bool) -> u32 {
     let mut count: u32 = 0;
     for at in 0..bytes.len() {
         let right = bytes[at];
@@ -119,9 +119,9 @@ fn changes_read(rt: &impl Abort, bytes: &mut [u8], is_reply: bool) -> u32 {
 }
 
 /// Asserts that n of all changes of one byte still decode, as a reply or as a request.
-fn change(rt: &impl Abort, bytes: &mut [u8], is_reply: bool, wanted: u32) {
+fn change(rt: &(impl Abort + Eprint), bytes: &mut [u8], is_reply: bool, wanted: u32) {
     let read = changes_read(rt, bytes, is_reply);
-    same(rt, &&*bytes, &read, &wanted);
+    assert!(rt; same(rt, &&*bytes, &read, &wanted));
 }
 
 #[test]
@@ -183,5 +183,5 @@ fn a_sheet_of_sixteen_is_the_longest_reply(rt: HostRuntime) {
     let call: Call = (7, 1, Asked::DrawMany(16));
     let reply = reply(&rt, SHEET, &call, &Came::DrawnMany(20_000, TEXTS));
     are_encoded_reply(&rt, SHEET, &reply);
-    same(&rt, &SHEET, &SHEET.len(), &230);
+    assert!(rt; same(&rt, &SHEET, &SHEET.len(), &230));
 }

@@ -1,15 +1,15 @@
 //! Frames, which are equal if their bytes are equal.
 
-use crate::expect::same;
 use crate::wire::vectors::{replies, reply, request, requests};
+use s10_test_help::expect::same;
 use s10_wire::{Frame, encode_reply, encode_request};
 use std::process::Abort;
 
 /// Asserts that the frame equals that of the requests with these bytes, and of no other.
-fn is_known_by_its_bytes(rt: &impl Abort, frame: &Frame, bytes: &[u8]) {
+fn is_known_by_its_bytes(rt: &(impl Abort + Eprint), frame: &Frame, bytes: &[u8]) {
     for (other, call) in requests() {
         let is_frame = *frame == encode_request(&request(rt, call));
-        same(rt, &bytes, &is_frame, &(bytes == *other));
+        assert!(rt; same(rt, &bytes, &is_frame, &(bytes == *other)));
     }
 }
 

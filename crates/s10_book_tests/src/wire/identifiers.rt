@@ -1,7 +1,7 @@
 //! Identifiers: their texts and their parts.
 
-use crate::expect::same;
 use s10_core::{Country, Group, Id, Serial, Service, TextFault, check_digit};
+use s10_test_help::expect::same;
 use std::process::Abort;
 use std::test::Fail;
 
@@ -25,14 +25,14 @@ const CHECK_DIGITS: &[(u32, u8)] = &[
 fn check_digits_are_those_worked_by_hand(rt: HostRuntime) {
     for (value, digit) in CHECK_DIGITS {
         let serial = Serial::new(*value).expect(&rt, "a serial number");
-        same(&rt, value, &check_digit(serial), digit);
+        assert!(rt; same(&rt, value, &check_digit(serial), digit));
     }
 }
 
 /// Asserts that the identifier is written as this text, and that the text is read as it.
-fn is_spelled(rt: &impl Abort, id: &Id, text: &[u8; 13]) {
-    same(rt, text, &id.write(), text);
-    same(rt, text, &Id::read(text), &Ok(*id));
+fn is_spelled(rt: &(impl Abort + Eprint), id: &Id, text: &[u8; 13]) {
+    assert!(rt; same(rt, text, &id.write(), text));
+    assert!(rt; same(rt, text, &Id::read(text), &Ok(*id)));
 }
 
 /// Digits of serial numbers, and the identifiers of RA GB with them.
@@ -74,11 +74,13 @@ fn a_label_is_read_without_its_spaces_and_in_capitals(rt: HostRuntime) {
     is_spelled(&rt, &id, b"RA473124829US");
     assert!(rt; has_parts(&id, *b"RA", Group::Registered, 47_312_482, *b"US"));
     let label = b"ra 473 124 82x us";
-    same(
-        &rt,
-        label,
-        &Id::read_label(label),
-        &Err(TextFault::Digit(10)),
+    assert!(rt;
+        same(
+            &rt,
+            label,
+            &Id::read_label(label),
+            &Err(TextFault::Digit(10)),
+        )
     );
 }
 
@@ -95,7 +97,7 @@ const REFUSED: &[(&[u8], TextFault)] = &[
 #[test]
 fn a_text_is_refused_for_its_first_fault(rt: HostRuntime) {
     for (text, fault) in REFUSED {
-        same(&rt, text, &Id::read(text), &Err(*fault));
+        assert!(rt; same(&rt, text, &Id::read(text), &Err(*fault)));
     }
 }
 
@@ -121,7 +123,7 @@ const GROUPS: &[([u8; 2], Group)] = &[
 fn the_first_letter_names_the_group(rt: HostRuntime) {
     for (letters, group) in GROUPS {
         let service = Service::new(*letters).expect(&rt, "letters of a service");
-        same(&rt, letters, &service.group(), group);
+        assert!(rt; same(&rt, letters, &service.group(), group));
     }
 }
 
@@ -138,11 +140,13 @@ const TEXTS: &[(TextFault, &str)] = &[
 #[test]
 fn each_fault_has_its_text(rt: HostRuntime) -> Result<(), Fail> {
     for (fault, text) in TEXTS {
-        same(
-            &rt,
-            fault,
-            &format!(in rt.alloc(); "{fault}")?.as_str(),
-            text,
+        assert!(rt;
+            same(
+                &rt,
+                fault,
+                &format!(in rt.alloc(); "{fault}")?.as_str(),
+                text,
+            )
         );
     }
     Ok(())

@@ -1,9 +1,9 @@
 //! Requests and replies as lines.
 
-use crate::expect::same;
-use crate::hiccup::Hiccup;
 use crate::wire::vectors::{Asked, Call, Came, reply, request};
 use s10_lines::{WriteFault, write_reply_line, write_request_line};
+use s10_test_help::expect::same;
+use s10_test_help::hiccup::Hiccup;
 use s10_wire::{Reply, Request, Status};
 use std::alloc::Global;
 use std::process::Abort;
@@ -191,9 +191,9 @@ fn reply_lines() -> &'static [(Call, Came, &'static [u8])] {
 }
 
 /// Asserts that the line was written whole.
-fn is_written(rt: &impl Abort, answer: Result<(), WriteFault>, out: &[u8], line: &[u8]) {
-    same(rt, &line, &answer, &Ok(()));
-    same(rt, &line, &out, &line);
+fn is_written(rt: &(impl Abort + Eprint), answer: Result<(), WriteFault>, out: &[u8], line: &[u8]) {
+    assert!(rt; same(rt, &line, &answer, &Ok(())));
+    assert!(rt; same(rt, &line, &out, &line));
 }
 
 #[test]
@@ -231,17 +231,17 @@ fn is_cut_reply_line(alloc: Global, reply: &Reply, line: &[u8], room: usize) -> 
     is_cut(answer, &out, line, room)
 }
 
-fn is_cut_everywhere(rt: &impl Abort, alloc: Global, request: &Request, line: &[u8]) {
+fn is_cut_everywhere(rt: &(impl Abort + Eprint), alloc: Global, request: &Request, line: &[u8]) {
     for room in 0..line.len() {
         let is_cut = is_cut_request_line(alloc, request, line, room);
-        same(rt, &&line[..room], &is_cut, &true);
+        assert!(rt; same(rt, &&line[..room], &is_cut, &true));
     }
 }
 
-fn is_reply_cut_everywhere(rt: &impl Abort, alloc: Global, reply: &Reply, line: &[u8]) {
+fn is_reply_cut_everywhere(rt: &(impl Abort + Eprint), alloc: Global, reply: &Reply, line: &[u8]) {
     for room in 0..line.len() {
         let is_cut = is_cut_reply_line(alloc, reply, line, room);
-        same(rt, &&line[..room], &is_cut, &true);
+        assert!(rt; same(rt, &&line[..room], &is_cut, &true));
     }
 }
 

@@ -1,7 +1,7 @@
 //! Requests and replies as values.
 
-use crate::expect::same;
 use crate::wire::vectors::{Asked, Call, Came, body, outcome, request};
+use s10_test_help::expect::same;
 use s10_wire::{Outcome, Reply, Request, Status, same_request};
 use std::process::Abort;
 
@@ -70,7 +70,7 @@ fn fits(rt: &impl Abort, outcome: &Outcome) -> [bool; 6] {
 fn a_reply_has_only_an_outcome_that_fits(rt: HostRuntime) {
     for (came, wanted) in FITTING {
         let outcome = outcome(&rt, came);
-        same(&rt, &outcome, &fits(&rt, &outcome), wanted);
+        assert!(rt; same(&rt, &outcome, &fits(&rt, &outcome), wanted));
     }
 }
 
@@ -99,6 +99,6 @@ fn requests_differ_by_any_field(rt: HostRuntime) {
     for (one, other, is_same) in PAIRS {
         let other = request(&rt, other);
         let found = same_request(&request(&rt, one), &other);
-        same(&rt, &other, &found, is_same);
+        assert!(rt; same(&rt, &other, &found, is_same));
     }
 }

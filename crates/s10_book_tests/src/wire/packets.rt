@@ -1,7 +1,7 @@
 //! Packets, which are equal if their bytes are equal.
 
-use crate::expect::same;
 use s10_link::Packet;
+use s10_test_help::expect::same;
 use std::process::Abort;
 
 /// Length of a datagram, and the number of its bytes that a packet keeps.
@@ -15,9 +15,9 @@ const LENGTHS: &[(usize, usize)] = &[
 ];
 
 /// Asserts that the packet of the first `len` bytes has the first `kept` of them.
-fn keeps(rt: &impl Abort, datagram: &[u8; 600], len: usize, kept: usize) {
+fn keeps(rt: &(impl Abort + Eprint), datagram: &[u8; 600], len: usize, kept: usize) {
     let packet = Packet::new(&datagram[..len.min(600)]);
-    same(rt, &len, &packet.bytes(), &&datagram[..kept.min(600)]);
+    assert!(rt; same(rt, &len, &packet.bytes(), &&datagram[..kept.min(600)]));
 }
 
 #[test]
@@ -57,6 +57,6 @@ const PAIRS: &[(u8, usize, usize, usize, bool)] = &[
 fn packets_are_equal_if_their_bytes_are(rt: HostRuntime) {
     for (byte, one, other, changed, equal) in PAIRS {
         let found = are_equal(*byte, *one, *other, *changed);
-        same(&rt, &(byte, one, other, changed), &found, equal);
+        assert!(rt; same(&rt, &(byte, one, other, changed), &found, equal));
     }
 }

@@ -1,7 +1,7 @@
 //! Addresses as texts.
 
-use crate::expect::same;
 use s10_link::Peer;
+use s10_test_help::expect::same;
 use std::alloc::Global;
 
 const ADDRESSES: &[(&str, Peer)] = &[
@@ -50,7 +50,7 @@ fn addresses_are_read_and_written(rt: HostRuntime) {
             Peer::read(text.as_bytes()),
             is_written(rt.alloc(), peer, text),
         );
-        same(&rt, text, &found, &(Some(*peer), true));
+        assert!(rt; same(&rt, text, &found, &(Some(*peer), true)));
     }
 }
 
@@ -86,6 +86,6 @@ const OTHER_TEXTS: &[&str] = &[
 #[test]
 fn other_texts_are_no_addresses(rt: HostRuntime) {
     for text in OTHER_TEXTS {
-        same(&rt, text, &Peer::read(text.as_bytes()), &None);
+        assert!(rt; same(&rt, text, &Peer::read(text.as_bytes()), &None));
     }
 }

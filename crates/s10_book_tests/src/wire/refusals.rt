@@ -1,7 +1,7 @@
 //! Bytes that are refused, with the fault of each.
 
-use crate::expect::same;
 use s10_lines::WriteFault;
+use s10_test_help::expect::same;
 use s10_wire::{WireFault, decode_reply, decode_request};
 use std::alloc::Global;
 use std::fmt::{Debug, Display};
@@ -9,16 +9,16 @@ use std::process::Abort;
 use std::test::Fail;
 
 /// Asserts that these bytes are no requests, each with its fault.
-fn are_no_requests(rt: &impl Abort, refused: &[(&[u8], WireFault)]) {
+fn are_no_requests(rt: &(impl Abort + Eprint), refused: &[(&[u8], WireFault)]) {
     for (bytes, fault) in refused {
-        same(rt, bytes, &decode_request(bytes), &Err(*fault));
+        assert!(rt; same(rt, bytes, &decode_request(bytes), &Err(*fault)));
     }
 }
 
 /// Asserts that these bytes are no replies, each with its fault.
-fn are_no_replies(rt: &impl Abort, refused: &[(&[u8], WireFault)]) {
+fn are_no_replies(rt: &(impl Abort + Eprint), refused: &[(&[u8], WireFault)]) {
     for (bytes, fault) in refused {
-        same(rt, bytes, &decode_reply(bytes), &Err(*fault));
+        assert!(rt; same(rt, bytes, &decode_reply(bytes), &Err(*fault)));
     }
 }
 
@@ -322,9 +322,9 @@ fn a_reply_to_a_withdrawal_is_refused_for_its_first_fault(rt: HostRuntime) {
 }
 
 /// Asserts that these bytes are no replies, since the outcome does not fit the kind.
-fn have_no_outcome(rt: &impl Abort, refused: &[&[u8]]) {
+fn have_no_outcome(rt: &(impl Abort + Eprint), refused: &[&[u8]]) {
     for bytes in refused {
-        same(rt, bytes, &decode_reply(bytes), &Err(WireFault::Outcome));
+        assert!(rt; same(rt, bytes, &decode_reply(bytes), &Err(WireFault::Outcome)));
     }
 }
 
@@ -367,13 +367,13 @@ const FAULTS: &[(WireFault, &str)] = &[
 
 /// Asserts that the fault is shown as this text.
 fn says<F: Debug + Display>(
-    rt: &impl Abort,
+    rt: &(impl Abort + Eprint),
     alloc: Global,
     fault: &F,
     text: &str,
 ) -> Result<(), Fail> {
     let shown = format!(in alloc; "{fault}")?;
-    same(rt, fault, &shown.as_str(), &text);
+    assert!(rt; same(rt, fault, &shown.as_str(), &text));
     Ok(())
 }
 

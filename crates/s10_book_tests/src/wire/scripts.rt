@@ -1,8 +1,8 @@
 //! Links that follow a script.
 
-use crate::expect::same;
 use s10_core::{Country, Service};
 use s10_link::{Link, LinkFault, Packet, Peer, Receipt, ScriptLink, Trace};
+use s10_test_help::expect::same;
 use s10_wire::{Body, Frame, Request, encode_request};
 use std::alloc::{AllocError, Global};
 use std::process::Abort;
@@ -72,9 +72,9 @@ const SENDS: &[(u32, Result<(), LinkFault>)] = &[
 ];
 
 /// Asserts that the sends end as `SENDS` says.
-fn sends_end(rt: &impl Abort, link: &mut ScriptLink) {
+fn sends_end(rt: &(impl Abort + Eprint), link: &mut ScriptLink) {
     for (number, end) in SENDS {
-        same(rt, number, &link.send(FAR, &draw(*number)), end);
+        assert!(rt; same(rt, number, &link.send(FAR, &draw(*number)), end));
     }
 }
 
@@ -151,7 +151,7 @@ fn alike_counts_the_last_equal_sends(rt: HostRuntime) {
     let mut link = six_sends(rt.alloc()).expect(&rt, "a link");
     for (to, number, alike) in ALIKE {
         let found = send_and_count_equal(&mut link, *to, *number);
-        same(&rt, &(to, number), &found, &(Ok(()), *alike));
+        assert!(rt; same(&rt, &(to, number), &found, &(Ok(()), *alike)));
     }
     assert!(rt; link.trace().sends == 6 && link.log().len() == 6);
 }
@@ -166,7 +166,7 @@ const TEXTS: &[(LinkFault, &str)] = &[
 #[test]
 fn link_faults_have_their_texts(rt: HostRuntime) -> Result<(), Fail> {
     for (fault, text) in TEXTS {
-        same(&rt, fault, &fault.to_string(rt.alloc())?.as_str(), text);
+        assert!(rt; same(&rt, fault, &fault.to_string(rt.alloc())?.as_str(), text));
     }
     Ok(())
 }

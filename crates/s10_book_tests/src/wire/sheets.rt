@@ -1,8 +1,8 @@
 //! Sheets: how many identifiers they have, and which.
 
-use crate::expect::same;
 use crate::wire::vectors::serial;
 use s10_core::{Country, Id, Service};
+use s10_test_help::expect::same;
 use s10_wire::{Count, Ids};
 use std::process::Abort;
 
@@ -70,7 +70,7 @@ fn counted(value: u8) -> Option<u8> {
 #[test]
 fn a_count_is_one_to_sixteen(rt: HostRuntime) {
     for (value, told) in COUNTS {
-        same(&rt, value, &counted(*value), told);
+        assert!(rt; same(&rt, value, &counted(*value), told));
     }
 }
 
@@ -81,7 +81,7 @@ const LENGTHS: &[(usize, Option<usize>)] = &[(0, None), (1, Some(1)), (16, Some(
 fn a_sheet_has_one_to_sixteen_labels(rt: HostRuntime) {
     let ids = seventeen(&rt);
     for (labels, told) in LENGTHS {
-        same(&rt, labels, &len(&ids, *labels), told);
+        assert!(rt; same(&rt, labels, &len(&ids, *labels), told));
     }
 }
 
@@ -100,7 +100,7 @@ const PLACES: &[(usize, usize, Option<u32>)] = &[
 fn labels_are_counted_from_0(rt: HostRuntime) {
     let ids = seventeen(&rt);
     for (labels, at, serial) in PLACES {
-        same(&rt, &(*labels, *at), &serial_at(&ids, *labels, *at), serial);
+        assert!(rt; same(&rt, &(*labels, *at), &serial_at(&ids, *labels, *at), serial));
     }
 }
 

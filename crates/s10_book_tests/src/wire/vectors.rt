@@ -1,7 +1,7 @@
 //! Datagrams as bytes, and their meaning.
 
-use crate::expect::same;
 use s10_core::{Country, Id, Serial, Service};
+use s10_test_help::expect::same;
 use s10_wire::{Body, Count, Ids, Outcome, Reply, Request, Status};
 use std::process::Abort;
 
@@ -289,9 +289,9 @@ fn sheet(rt: &impl Abort, texts: &[&[u8]]) -> Ids {
 }
 
 /// Returns the reply of a row, which is printed if the outcome does not fit.
-pub(crate) fn reply(rt: &impl Abort, row: &[u8], call: &Call, came: &Came) -> Reply {
+pub(crate) fn reply(rt: &(impl Abort + Eprint), row: &[u8], call: &Call, came: &Came) -> Reply {
     let reply = Reply::new(request(rt, call), outcome(rt, came));
-    same(rt, &row, &reply.is_some(), &true);
+    assert!(rt; same(rt, &row, &reply.is_some(), &true));
     reply.expect(rt, "an outcome that does not fit")
 }
 
