@@ -5,8 +5,6 @@
 #[cfg(test)]
 mod ends;
 #[cfg(test)]
-mod expect;
-#[cfg(test)]
 mod jobs;
 #[cfg(test)]
 mod links;

@@ -1,15 +1,13 @@
 //! Batches of a server over links that follow a script.
 
-use crate::ends::fixtures::{
-    DRAW, DRAWN, GRANT, GRANTED, SECOND_DRAW, SECOND_DRAWN, Sent, granted_server, has_sent,
-    new_server,
-};
+use crate::ends::fixtures::{Sent, granted_server, has_sent, new_server};
 use crate::ends::turn_ends::{Ends, is_expected_turn};
-use crate::expect::holds_at;
 use crate::links::{Meets, link_of};
 use s10_book::{Book, BookFault, GroupCommit, TripBook};
 use s10_ends::{Server, Turn, serve_batch};
 use s10_link::{Link, LinkFault, Peer, ScriptLink};
+use s10_test_help::datagrams::{DRAW, DRAWN, GRANT, GRANTED, SECOND_DRAW, SECOND_DRAWN};
+use s10_test_help::expect::holds;
 use s10_wire::WireFault;
 use std::alloc::Global;
 
@@ -217,7 +215,7 @@ const LONE_BATCHES: &'static [Script] = &[
 #[test]
 fn a_batch_without_a_datagram_is_one_turn(rt: HostRuntime) {
     for (at, script) in LONE_BATCHES.iter().enumerate() {
-        holds_at(&rt, at, leaves(rt.alloc(), script, 0));
+        assert!(rt; holds(&rt, &at, leaves(rt.alloc(), script, 0)));
     }
 }
 

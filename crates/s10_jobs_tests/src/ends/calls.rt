@@ -1,10 +1,12 @@
 //! Calls of a client over links that follow a script.
 
-use crate::ends::fixtures::{DRAW, DRAWN, Sent, draw, has_sent, is_answered, request};
-use crate::expect::holds_at;
+use crate::ends::fixtures::{Sent, has_sent, is_answered, request};
 use crate::links::{Meets, link_of};
 use s10_ends::{CallFault, Client, SubmitFault, call};
 use s10_link::{Link, LinkFault, Peer, ScriptLink};
+use s10_test_help::asked::Asked;
+use s10_test_help::datagrams::{DRAW, DRAWN};
+use s10_test_help::expect::holds;
 use std::alloc::Global;
 
 const SERVER: Peer = Peer {
@@ -41,7 +43,13 @@ fn fault(fails: Fails) -> CallFault {
 
 /// Returns whether a call fails in this way and leaves no request pending.
 fn has_failed(client: &mut Client, link: &mut ScriptLink, tries: u32, fails: Fails) -> bool {
-    match call(client, link, SERVER, draw(), tries.max(1).min(100)) {
+    match call(
+        client,
+        link,
+        SERVER,
+        Asked::Draw.body(),
+        tries.max(1).min(100),
+    ) {
         Ok(_) => false,
         Err(found) => found == fault(fails) && client.pending().is_none(),
     }
@@ -54,7 +62,7 @@ fn is_answered_once(alloc: Global, receipts: &[Meets]) -> bool {
         return false;
     };
     let mut client = Client::new(7, 1, 1).unwrap();
-    is_answered(&mut client, &mut link, SERVER, draw(), 2, DRAWN)
+    is_answered(&mut client, &mut link, SERVER, Asked::Draw.body(), 2, DRAWN)
         && client.pending().is_none()
         && has_sent(&link, &[ASKED, ASKED])
         && has_failed(
@@ -107,7 +115,7 @@ fn is_unanswered(alloc: Global, told: &Unanswered) -> bool {
         && has_sent(&link, told.sent)
         && link.trace().calls == told.calls
         && link.trace().received == told.received
-        && client.submit(draw()) == Ok(request(2))
+        && client.submit(Asked::Draw.body()) == Ok(request(2))
 }
 
 /// One try, in which no datagram arrives.
@@ -185,7 +193,7 @@ const FAILING_LINKS: &'static [Unanswered] = &[
 #[test]
 fn failing_links_end_a_call(rt: HostRuntime) {
     for (at, told) in FAILING_LINKS.iter().enumerate() {
-        holds_at(&rt, at, is_unanswered(rt.alloc(), told));
+        assert!(rt; holds(&rt, &at, is_unanswered(rt.alloc(), told)));
     }
 }
 
@@ -206,6 +214,6 @@ const TEXTS: &'static [(Fails, &'static str)] = &[
 #[test]
 fn call_faults_have_their_texts(rt: HostRuntime) {
     for (at, (fails, text)) in TEXTS.iter().enumerate() {
-        holds_at(&rt, at, has_text(rt.alloc(), *fails, text));
+        assert!(rt; holds(&rt, &at, has_text(rt.alloc(), *fails, text)));
     }
 }

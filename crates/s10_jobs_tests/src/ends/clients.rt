@@ -1,8 +1,9 @@
 //! Clients, and the datagrams that they accept as replies.
 
-use crate::ends::fixtures::{draw, request};
-use crate::expect::holds_at;
+use crate::ends::fixtures::request;
 use s10_ends::{BadNumbers, Client, Received, SubmitFault};
+use s10_test_help::asked::Asked;
+use s10_test_help::expect::holds;
 use s10_wire::{WireFault, encode_reply};
 use std::process::Abort;
 
@@ -66,8 +67,8 @@ fn accepts(client: &mut Client, datagram: &[u8]) -> bool {
 fn goes(client: &mut Client, step: Step) -> bool {
     match step {
         Step::IsUnused => client.is_new() && client.customer() == 7 && client.resend().is_none(),
-        Step::Takes(number) => client.submit(draw()) == Ok(request(number)),
-        Step::Refuses(fault) => client.submit(draw()) == Err(fault),
+        Step::Takes(number) => client.submit(Asked::Draw.body()) == Ok(request(number)),
+        Step::Refuses(fault) => client.submit(Asked::Draw.body()) == Err(fault),
         Step::Sends(number, datagram) => is_sending(client, number, datagram),
         Step::Drops(datagram, fault) => passes_over(client, datagram, Received::Malformed(fault)),
         Step::PassesOver(datagram) => passes_over(client, datagram, Received::NotMine),
@@ -80,12 +81,12 @@ fn goes(client: &mut Client, step: Step) -> bool {
 }
 
 /// Asserts that a client of customer 7 with the numbers `first` to `last` performs the steps.
-fn go_through(rt: &impl Abort, first: u32, last: u32, steps: &[Step]) {
+fn go_through(rt: &(impl Abort + Eprint), first: u32, last: u32, steps: &[Step]) {
     let Ok(mut client) = Client::new(7, first, last) else {
         panic!(rt; "no client");
     };
     for (at, step) in steps.iter().enumerate() {
-        holds_at(rt, at, goes(&mut client, *step));
+        assert!(rt; holds(rt, &at, goes(&mut client, *step)));
     }
 }
 

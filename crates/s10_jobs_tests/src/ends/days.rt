@@ -1,7 +1,8 @@
 //! Days of calls, and the reuse interval of a serial.
 
-use crate::ends::scripts::Want::Reply;
-use crate::ends::scripts::{DRAW, GRANT, Part, is_played};
+use crate::ends::scripts::{Part, is_played};
+use s10_test_help::deliveries::Want::Reply;
+use s10_test_help::deliveries::{DRAW, GRANT};
 
 /// Three serials are drawn on day 20000. None is free 29 days later, and the first is drawn again
 /// 30 days later.

@@ -1,21 +1,22 @@
 //! Servers over a book that fails at one of its calls.
 
 use crate::ends::fixtures::empty_book;
-use crate::ends::scripts::Want::Faulted;
-use crate::ends::scripts::{DRAW, GRANT, Step, is_as_wanted};
+use crate::ends::scripts::is_as_wanted;
 use s10_book::{Book, BookFault, TripBook};
 use s10_ends::Server;
+use s10_test_help::deliveries::Want::Faulted;
+use s10_test_help::deliveries::{DRAW, Delivered, GRANT};
 use std::alloc::Global;
 
 /// Returns whether the server answers a step as expected.
-fn is_answered<B: Book>(server: &mut Server<B>, step: &Step) -> bool {
+fn is_answered<B: Book>(server: &mut Server<B>, step: &Delivered) -> bool {
     let (day, datagram, want) = step;
     is_as_wanted(&server.handle(datagram, *day), want)
 }
 
 /// Returns whether a step is answered as expected, delivered again if the store failed, and whether
 /// it failed.
-fn is_answered_after_retry<B: Book>(server: &mut Server<B>, step: &Step) -> (bool, bool) {
+fn is_answered_after_retry<B: Book>(server: &mut Server<B>, step: &Delivered) -> (bool, bool) {
     let (day, datagram, want) = step;
     let answer = server.handle(datagram, *day);
     if is_as_wanted(&answer, &Faulted(BookFault::Store)) {

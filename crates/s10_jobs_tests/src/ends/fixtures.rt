@@ -1,10 +1,11 @@
 //! Servers over books, scripted links, and calls, for several of these tests.
 
 use s10_book::{Book, PlainBook};
-use s10_core::{Country, Serial, Service};
 use s10_ends::{Client, Server, UdpLink, call};
 use s10_history::Settings;
 use s10_link::{Link, Peer, ScriptLink};
+use s10_test_help::asked::Asked;
+use s10_test_help::datagrams::GRANT;
 use s10_wire::{Body, Request, encode_reply};
 use std::alloc::Global;
 use std::net::Net;
@@ -21,50 +22,12 @@ pub(crate) fn bound<R: Abort + Net>(rt: &R, wait_ms: u32) -> UdpLink {
     UdpLink::bind(rt, ANY_PORT, wait_ms).expect(rt, "a socket")
 }
 
-/// The post's first Grant: RA GB 0 to 2 to customer 7.
-pub const GRANT: &[u8] = b"S1\x01\x01\0\0\0\0\0\0\0\x01\0\0\0\x07RAGB\0\0\0\0\0\0\0\x02";
-
-/// The reply to it: range 1.
-pub const GRANTED: &[u8] =
-    b"S1\x01\x81\0\0\0\0\0\0\0\x01\0\0\0\x07RAGB\0\0\0\0\0\0\0\x02\0\0\0\0\x01";
-
-/// Customer 7's first Draw.
-pub const DRAW: &[u8] = b"S1\x01\x02\0\0\0\x07\0\0\0\x01RAGB";
-
-/// The reply to it: RA000000005GB, issued on day 20000.
-pub const DRAWN: &[u8] = b"S1\x01\x82\0\0\0\x07\0\0\0\x01RAGB\0\0\0\x4e\x20RA000000005GB";
-
-/// Customer 7's second Draw.
-pub const SECOND_DRAW: &[u8] = b"S1\x01\x02\0\0\0\x07\0\0\0\x02RAGB";
-
-/// The reply to it: RA000000014GB, issued on day 20000.
-pub const SECOND_DRAWN: &[u8] = b"S1\x01\x82\0\0\0\x07\0\0\0\x02RAGB\0\0\0\x4e\x20RA000000014GB";
-
-/// Returns a Draw of RA GB.
-pub(crate) fn draw() -> Body {
-    Body::Draw {
-        service: Service::new(*b"RA").unwrap(),
-        country: Country::new(*b"GB").unwrap(),
-    }
-}
-
-/// Returns a Grant of RA GB 0 to 2 to customer 7.
-pub(crate) fn grant() -> Body {
-    Body::Grant {
-        holder: 7,
-        service: Service::new(*b"RA").unwrap(),
-        country: Country::new(*b"GB").unwrap(),
-        first: Serial::new(0).unwrap(),
-        last: Serial::new(2).unwrap(),
-    }
-}
-
 /// Returns customer 7's Draw of RA GB with this number.
 pub(crate) fn request(number: u32) -> Request {
     Request {
         customer: 7,
         number,
-        body: draw(),
+        body: Asked::Draw.body(),
     }
 }
 

@@ -1,9 +1,11 @@
 //! Calls over a link with a server in the same process.
 
-use crate::ends::fixtures::{DRAWN, GRANTED, bound, draw, grant, is_answered, new_server};
+use crate::ends::fixtures::{bound, is_answered, new_server};
 use s10_book::Book;
 use s10_ends::{Client, NearLink};
 use s10_link::{Link, Peer};
+use s10_test_help::asked::Asked;
+use s10_test_help::datagrams::{DRAWN, GRANTED};
 use s10_wire::encode_request;
 
 /// Returns whether the post's Grant and customer 7's Draw get their replies over this link, each in
@@ -11,14 +13,20 @@ use s10_wire::encode_request;
 fn both_are_answered<L: Link>(link: &mut L, to: Peer) -> bool {
     let mut post = Client::new(0, 1, 1).unwrap();
     let mut customer = Client::new(7, 1, 1).unwrap();
-    is_answered(&mut post, link, to, grant(), 1, GRANTED)
-        && is_answered(&mut customer, link, to, draw(), 1, DRAWN)
+    is_answered(
+        &mut post,
+        link,
+        to,
+        Asked::Grant(7, 0, 2).body(),
+        1,
+        GRANTED,
+    ) && is_answered(&mut customer, link, to, Asked::Draw.body(), 1, DRAWN)
 }
 
 /// Returns whether the first receive that does not wait gives the reply to the post's Grant.
 fn is_answered_without_waiting<L: Link>(link: &mut L, to: Peer) -> bool {
     let mut post = Client::new(0, 1, 1).unwrap();
-    let Ok(request) = post.submit(grant()) else {
+    let Ok(request) = post.submit(Asked::Grant(7, 0, 2).body()) else {
         return false;
     };
     let Ok(()) = link.send(to, &encode_request(&request)) else {

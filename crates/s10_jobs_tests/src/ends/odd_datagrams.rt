@@ -1,10 +1,11 @@
 //! Datagrams that arrive twice, and one that no client sends.
 
-use crate::ends::fixtures::{bound, draw, is_answered, new_server, request};
-use crate::expect::holds_at;
+use crate::ends::fixtures::{bound, is_answered, new_server, request};
 use s10_book::{Book, PlainBook};
 use s10_ends::{Client, Server, ServerTurn, UdpLink, serve_one};
 use s10_link::{Link, Packet, Peer};
+use s10_test_help::asked::Asked;
+use s10_test_help::expect::holds;
 use s10_wire::{WireFault, decode_reply, encode_reply, encode_request};
 use std::net::{Ipv4Addr, Net, SocketAddr, SocketAddrV4, UdpSocket};
 use std::process::Abort;
@@ -27,7 +28,7 @@ fn is_answered_twice<L: Link>(
     datagram: &[u8],
 ) -> bool {
     is_sent_twice(far.0, near.1, datagram)
-        && is_answered(client, near.0, far.1, draw(), 2, datagram)
+        && is_answered(client, near.0, far.1, Asked::Draw.body(), 2, datagram)
 }
 
 /// Returns whether the next datagram is customer 7's Draw with this number.
@@ -41,9 +42,9 @@ fn nothing_comes<L: Link>(link: &mut L) -> bool {
 }
 
 /// Asserts that customer 7's Draws with the numbers 1 to 3 arrive, and nothing after them.
-fn three_draws_come<L: Link>(rt: &impl Abort, link: &mut L, from: Peer) {
+fn three_draws_come<L: Link>(rt: &(impl Abort + Eprint), link: &mut L, from: Peer) {
     for number in 1..4u32 {
-        holds_at(rt, number as usize, has_come(link, from, number));
+        assert!(rt; holds(rt, &number, has_come(link, from, number)));
     }
     assert!(rt; nothing_comes(link));
 }
@@ -68,7 +69,7 @@ fn a_client_that_gets_each_datagram_twice_sends_each_frame_once(rt: HostRuntime)
             (&mut far, there),
             reply,
         );
-        holds_at(&rt, at, is_answered);
+        assert!(rt; holds(&rt, &at, is_answered));
     }
     three_draws_come(&rt, &mut far, here);
 }

@@ -1,8 +1,11 @@
 //! Worlds with strange bytes and with a full book.
 
-use crate::ends::fixtures::{DRAW, DRAWN, GRANTED, empty_book};
-use crate::ends::story::{Asked, Happens, STORY, world_after};
+use crate::ends::fixtures::empty_book;
+use crate::ends::story::world_after;
 use s10_book::Book;
+use s10_test_help::asked::Asked;
+use s10_test_help::datagrams::{DRAW, DRAWN, GRANTED};
+use s10_test_help::story::{Happens, STORY};
 use s10_wire::{Frame, Reply};
 use s10_world::World;
 use std::alloc::Global;
@@ -11,7 +14,7 @@ use std::alloc::Global;
 /// client's own with that number.
 const STRANGE_BYTES: &'static [Happens] = &[
     Happens::Strange(b"S1", 20_000),
-    Happens::Submit(0, Asked::Grant),
+    Happens::Submit(0, Asked::Grant(7, 0, 2)),
     Happens::Resend(0),
     Happens::ToServer(0, 20_000),
     Happens::ToClient(0, 0),

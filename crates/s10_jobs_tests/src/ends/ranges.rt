@@ -1,7 +1,8 @@
 //! Ranges that are granted, and what is drawn from them and refused.
 
-use crate::ends::scripts::Want::Reply;
-use crate::ends::scripts::{GRANT, Part, is_played};
+use crate::ends::scripts::{Part, is_played};
+use s10_test_help::deliveries::GRANT;
+use s10_test_help::deliveries::Want::Reply;
 
 /// Grants are done and refused. Then each customer draws only from its own range.
 const RANGES: &'static [Part] = &[

@@ -1,8 +1,9 @@
 //! Bytes that are no requests, and calls to a full book.
 
-use crate::ends::scripts::Want::{Dropped, Faulted, Reply};
-use crate::ends::scripts::{DRAW, GRANT, Part, is_played};
+use crate::ends::scripts::{Part, is_played};
 use s10_book::BookFault;
+use s10_test_help::deliveries::Want::{Dropped, Faulted, Reply};
+use s10_test_help::deliveries::{DRAW, GRANT};
 use s10_wire::WireFault;
 
 /// Bytes that are no requests, with the fault of each.

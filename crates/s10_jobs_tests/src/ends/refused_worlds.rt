@@ -1,8 +1,9 @@
 //! A world that is refused memory.
 
 use crate::ends::fixtures::{empty_book, have_one_history};
-use crate::ends::story::{EVENTS, STORY, events_of, new_world};
+use crate::ends::story::{EVENTS, events_of, new_world};
 use s10_book::{Book, PlainBook};
+use s10_test_help::story::STORY;
 use s10_world::{Event, World, WorldFault};
 use std::alloc::{AllocError, Global};
 

@@ -1,11 +1,12 @@
 //! Datagrams that arrive again.
 
-use crate::ends::scripts::Want::{Dropped, Reply};
-use crate::ends::scripts::{DRAW, GRANT, Part, Step, is_played};
+use crate::ends::scripts::{Part, is_played};
+use s10_test_help::deliveries::Want::{Dropped, Reply};
+use s10_test_help::deliveries::{DRAW, Delivered, GRANT};
 use s10_wire::WireFault;
 
 /// The first Draw, on a later day.
-const LATE_DRAW: Step = (
+const LATE_DRAW: Delivered = (
     20400,
     b"S1\x01\x02\0\0\0\x07\0\0\0\x01RAGB",
     Reply(b"S1\x01\x82\0\0\0\x07\0\0\0\x01RAGB\0\0\0\x4e\x20RA000000005GB"),

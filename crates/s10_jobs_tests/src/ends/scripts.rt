@@ -1,39 +1,14 @@
 //! Deliveries, each with its expected answer.
 
 use crate::ends::fixtures::new_server;
-use s10_book::{Book, BookFault};
+use s10_book::Book;
 use s10_ends::{Answer, Delivery, Server};
 use s10_link::Packet;
-use s10_wire::WireFault;
+use s10_test_help::deliveries::{Delivered, Want};
 use std::alloc::{AllocError, Global};
 
-/// The expected answer to a delivery.
-#[derive(Clone, Copy)]
-pub enum Want {
-    Reply(&'static [u8]),
-    Dropped(WireFault),
-    Faulted(BookFault),
-}
-
-/// The day, the datagram, and its expected answer.
-pub type Step = (u32, &'static [u8], Want);
-
 /// Steps that are delivered in one run, and the number of calls and the day of the book after it.
-pub type Part = (&'static [Step], u32, u32);
-
-/// The post grants range 1 to customer 7: RA GB 0 to 2.
-pub const GRANT: Step = (
-    20000,
-    b"S1\x01\x01\0\0\0\0\0\0\0\x01\0\0\0\x07RAGB\0\0\0\0\0\0\0\x02",
-    Want::Reply(b"S1\x01\x81\0\0\0\0\0\0\0\x01\0\0\0\x07RAGB\0\0\0\0\0\0\0\x02\0\0\0\0\x01"),
-);
-
-/// Customer 7's first Draw, which gets serial 0.
-pub const DRAW: Step = (
-    20000,
-    b"S1\x01\x02\0\0\0\x07\0\0\0\x01RAGB",
-    Want::Reply(b"S1\x01\x82\0\0\0\x07\0\0\0\x01RAGB\0\0\0\x4e\x20RA000000005GB"),
-);
+pub type Part = (&'static [Delivered], u32, u32);
 
 /// Returns whether the answer is the expected one.
 pub(crate) fn is_as_wanted(answer: &Answer, want: &Want) -> bool {
@@ -46,7 +21,7 @@ pub(crate) fn is_as_wanted(answer: &Answer, want: &Want) -> bool {
 }
 
 /// Returns the deliveries of these steps.
-fn deliveries_of(alloc: Global, steps: &[Step]) -> Result<Vec<Delivery>, AllocError> {
+fn deliveries_of(alloc: Global, steps: &[Delivered]) -> Result<Vec<Delivery>, AllocError> {
     let mut deliveries = Vec::new(alloc);
     for (day, datagram, _) in steps {
         let packet = Packet::new(datagram);
@@ -56,7 +31,7 @@ fn deliveries_of(alloc: Global, steps: &[Step]) -> Result<Vec<Delivery>, AllocEr
 }
 
 /// Returns whether each step has its expected answer.
-fn are_as_wanted(answers: &[Answer], steps: &[Step]) -> bool {
+fn are_as_wanted(answers: &[Answer], steps: &[Delivered]) -> bool {
     if answers.len() != steps.len() {
         return false;
     }

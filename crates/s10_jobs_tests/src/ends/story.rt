@@ -1,66 +1,14 @@
-//! A story of three clients, and the worlds that it happens in.
+//! The worlds that a story of three clients happens in.
 
 ghost use Rattle.std.specs.Prelude.{◌≡◌, IfOk, All, length};
 ghost use Rattle.s10_ends.specs.Client.{IsNew};
 
-use crate::ends::fixtures::{draw, grant};
 use s10_book::Book;
 use s10_ends::{Client, Server};
 use s10_link::Packet;
-use s10_wire::Body;
+use s10_test_help::story::Happens;
 use s10_world::{Event, World};
 use std::alloc::{AllocError, Global};
-
-/// What a client asks.
-#[derive(Clone, Copy)]
-pub enum Asked {
-    /// RA GB 0 to 2 for customer 7.
-    Grant,
-    /// An identifier of RA GB.
-    Draw,
-    /// The number of the range.
-    Withdraw(u32),
-}
-
-/// An event of a world.
-#[derive(Clone, Copy)]
-pub enum Happens {
-    /// The client, and what it asks.
-    Submit(u32, Asked),
-    /// The client.
-    Resend(u32),
-    /// The client.
-    GiveUp(u32),
-    /// The index of a frame sent by a client, and the day of its delivery.
-    ToServer(usize, u32),
-    /// The bytes of a datagram that no client sent, and the day of its delivery.
-    Strange(&'static [u8], u32),
-    /// The client, and the index of a frame sent by the server.
-    ToClient(u32, usize),
-}
-
-/// The post grants three serials. Two clients of customer 7 draw: the second's request arrives
-/// first, both arrive twice, and the second client gives up before its reply arrives.
-pub const STORY: &'static [Happens] = &[
-    Happens::Submit(0, Asked::Grant),
-    Happens::Resend(0),
-    Happens::ToServer(0, 20_000),
-    Happens::ToClient(0, 0),
-    Happens::Submit(1, Asked::Draw),
-    Happens::Resend(1),
-    Happens::Submit(2, Asked::Draw),
-    Happens::Resend(2),
-    Happens::ToServer(2, 20_000),
-    Happens::ToServer(1, 20_000),
-    Happens::ToServer(2, 20_001),
-    Happens::ToServer(1, 20_001),
-    Happens::ToClient(1, 1),
-    Happens::GiveUp(2),
-    Happens::ToClient(2, 1),
-    Happens::ToClient(1, 2),
-    Happens::ToClient(1, 4),
-    Happens::ToServer(9, 20_000),
-];
 
 /// The number of events in the story.
 pub const EVENTS: usize = 18;
@@ -68,19 +16,11 @@ pub const EVENTS: usize = 18;
 /// The greatest number of events of a story.
 const MOST: usize = 25;
 
-fn body(asked: Asked) -> Body {
-    match asked {
-        Asked::Grant => grant(),
-        Asked::Draw => draw(),
-        Asked::Withdraw(range) => Body::Withdraw { range },
-    }
-}
-
 fn event(happens: Happens) -> Event {
     match happens {
         Happens::Submit(client, asked) => Event::Submit {
             client,
-            body: body(asked),
+            body: asked.body(),
         },
         Happens::Resend(client) => Event::Resend { client },
         Happens::GiveUp(client) => Event::GiveUp { client },

@@ -1,15 +1,13 @@
 //! Turns of a server over links that follow a script.
 
-use crate::ends::fixtures::{
-    DRAW, DRAWN, GRANT, GRANTED, SECOND_DRAW, SECOND_DRAWN, Sent, granted_server, has_sent,
-    new_server,
-};
+use crate::ends::fixtures::{Sent, granted_server, has_sent, new_server};
 use crate::ends::turn_ends::{Ends, is_expected_turn};
-use crate::expect::holds_at;
 use crate::links::{Meets, link_of, link_with_failure};
 use s10_book::{Book, BookFault, GroupCommit, PlainBook};
 use s10_ends::{Server, serve_batch_of_one, serve_one};
 use s10_link::{Link, LinkFault, Peer, ScriptLink};
+use s10_test_help::datagrams::{DRAW, DRAWN, GRANT, GRANTED, SECOND_DRAW, SECOND_DRAWN};
+use s10_test_help::expect::holds;
 use s10_wire::WireFault;
 use std::alloc::Global;
 use std::process::Abort;
@@ -45,7 +43,7 @@ struct Script {
 
 /// Asserts that the turns of a server over a script end as expected.
 fn follow_script<B: GroupCommit + Drop>(
-    rt: &impl Abort,
+    rt: &(impl Abort + Eprint),
     alloc: Global,
     mut server: Server<B>,
     script: &Script,
@@ -54,7 +52,7 @@ fn follow_script<B: GroupCommit + Drop>(
         panic!(rt; "no link");
     };
     for (at, ends) in script.turns.iter().enumerate() {
-        holds_at(rt, at, serves(&mut server, &mut link, ends));
+        assert!(rt; holds(rt, &at, serves(&mut server, &mut link, ends)));
     }
     assert!(rt; has_sent(&link, script.sent));
     assert!(rt; server.book().len() == script.calls);
@@ -62,7 +60,7 @@ fn follow_script<B: GroupCommit + Drop>(
 
 /// Asserts that the single turns of a server over a durable book end as expected.
 fn follow_script_by_turns(
-    rt: &impl Abort,
+    rt: &(impl Abort + Eprint),
     alloc: Global,
     mut server: Server<PlainBook>,
     script: &Script,
@@ -72,7 +70,7 @@ fn follow_script_by_turns(
     };
     for (at, ends) in script.turns.iter().enumerate() {
         let turn = serve_one(&mut server, &mut link, 20_000);
-        holds_at(rt, at, is_expected_turn(&turn, ends));
+        assert!(rt; holds(rt, &at, is_expected_turn(&turn, ends)));
     }
     assert!(rt; has_sent(&link, script.sent));
     assert!(rt; server.book().len() == script.calls);
@@ -211,7 +209,7 @@ fn survives_a_lost_reply(alloc: Global, failing: usize) -> bool {
 #[test]
 fn any_one_reply_may_be_lost(rt: HostRuntime) {
     for failing in 0..10usize {
-        holds_at(&rt, failing, survives_a_lost_reply(rt.alloc(), failing));
+        assert!(rt; holds(&rt, &failing, survives_a_lost_reply(rt.alloc(), failing)));
     }
 }
 
@@ -228,6 +226,12 @@ fn survives_a_failed_receive(alloc: Global, failing: usize) -> bool {
 #[test]
 fn any_one_receive_may_fail(rt: HostRuntime) {
     for failing in 0..10usize {
-        holds_at(&rt, failing, survives_a_failed_receive(rt.alloc(), failing));
+        assert!(rt;
+            holds(
+                &rt,
+                &failing,
+                survives_a_failed_receive(rt.alloc(), failing)
+            )
+        );
     }
 }

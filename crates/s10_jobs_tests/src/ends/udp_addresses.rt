@@ -2,9 +2,9 @@
 //! receive waits.
 
 use crate::ends::fixtures::{ANY_PORT, bound, request};
-use crate::expect::holds_at;
 use s10_ends::UdpLink;
 use s10_link::{Link, Packet, Peer};
+use s10_test_help::expect::holds;
 use s10_wire::{Frame, encode_request};
 use std::net::{Ipv4Addr, Net, SocketAddr, SocketAddrV4, UdpSocket};
 use std::time::{Clock, Duration};
@@ -99,7 +99,7 @@ const LENGTHS: &[(usize, usize)] = &[(0, 0), (1, 1), (511, 511), (512, 512), (51
 fn a_packet_has_room_for_512_bytes(rt: HostRuntime) {
     let mut link = bound(&rt, 1_000);
     for (len, kept) in LENGTHS {
-        holds_at(&rt, *len, is_kept(&rt, &mut link, *len, *kept));
+        assert!(rt; holds(&rt, len, is_kept(&rt, &mut link, *len, *kept)));
     }
 }
 
@@ -123,17 +123,21 @@ fn waits<C: Clock>(clock: &C, link: &mut UdpLink) -> bool {
 #[test]
 fn a_receive_waits_after_one_that_did_not(rt: HostRuntime) {
     let mut link = bound(&rt, WAIT_MS);
-    holds_at(&rt, 0, waits(&rt, &mut link));
-    holds_at(
-        &rt,
-        1,
-        link.try_receive() == Ok(None) && waits(&rt, &mut link),
+    assert!(rt; holds(&rt, &0, waits(&rt, &mut link)));
+    assert!(rt;
+        holds(
+            &rt,
+            &1,
+            link.try_receive() == Ok(None) && waits(&rt, &mut link),
+        )
     );
     let mut far = bound(&rt, WAIT_MS);
     let frame = encode_request(&request(1));
-    holds_at(
-        &rt,
-        2,
-        arrives(&mut far, &mut link, &frame) && waits(&rt, &mut link),
+    assert!(rt;
+        holds(
+            &rt,
+            &2,
+            arrives(&mut far, &mut link, &frame) && waits(&rt, &mut link),
+        )
     );
 }

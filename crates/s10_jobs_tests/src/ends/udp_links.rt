@@ -1,9 +1,10 @@
 //! Links of two sockets of this machine.
 
-use crate::ends::fixtures::{ANY_PORT, DRAW, bound, request};
-use crate::expect::holds_at;
+use crate::ends::fixtures::{ANY_PORT, bound, request};
 use s10_ends::UdpLink;
 use s10_link::{Link, LinkFault, Packet, Trace};
+use s10_test_help::datagrams::DRAW;
+use s10_test_help::expect::holds;
 use s10_wire::{Frame, encode_request};
 use std::net::Net;
 use std::process::Abort;
@@ -98,9 +99,9 @@ fn hears_nothing<R: Abort + Net>(rt: &R, wait_ms: u32) -> bool {
 
 #[test]
 fn a_wait_without_a_datagram_is_no_failure(rt: HostRuntime) {
-    holds_at(&rt, 0, hears_nothing(&rt, 0));
-    holds_at(&rt, 1, hears_nothing(&rt, 1));
-    holds_at(&rt, 20, hears_nothing(&rt, 20));
+    assert!(rt; holds(&rt, &0, hears_nothing(&rt, 0)));
+    assert!(rt; holds(&rt, &1, hears_nothing(&rt, 1)));
+    assert!(rt; holds(&rt, &20, hears_nothing(&rt, 20)));
 }
 
 #[test]

@@ -1,8 +1,9 @@
 //! A world in which the post withdraws a customer's range.
 
-use crate::ends::fixtures::{DRAWN, GRANTED};
 use crate::ends::odd_worlds::{Expected, ends_as_expected};
-use crate::ends::story::{Asked, Happens};
+use s10_test_help::asked::Asked;
+use s10_test_help::datagrams::{DRAWN, GRANTED};
+use s10_test_help::story::Happens;
 
 const WITHDRAWN: &[u8] = b"S1\x02\x86\0\0\0\0\0\0\0\x02\0\0\0\x01\0";
 
@@ -14,7 +15,7 @@ const NO_RANGE_10: &[u8] = b"S1\x01\x82\0\0\0\x07\0\0\0\x0aRAGB\x04";
 /// lost once and arrives twice, and its first reply is late. The first Draw arrives again, and
 /// customer 7's second client draws.
 const OVERTAKEN: &'static [Happens] = &[
-    Happens::Submit(0, Asked::Grant),
+    Happens::Submit(0, Asked::Grant(7, 0, 2)),
     Happens::Resend(0),
     Happens::ToServer(0, 20_000),
     Happens::ToClient(0, 0),

@@ -1,22 +1,15 @@
 //! Worlds in which the story happens.
 
-use crate::ends::fixtures::{DRAW, GRANT, GRANTED, empty_book};
+use crate::ends::fixtures::empty_book;
 use crate::ends::odd_worlds::are_frames;
-use crate::ends::story::{STORY, world_after};
+use crate::ends::story::world_after;
 use s10_book::{Book, TripBook};
+use s10_test_help::datagrams::{DRAW, DRAW_10, DRAWN_1, DRAWN_10, GRANT, GRANTED, STORY_REPLIES};
+use s10_test_help::story::STORY;
 use s10_wire::{Reply, Request, encode_reply, encode_request};
 use s10_world::World;
 use std::alloc::{AllocError, Global};
 use std::process::Abort;
-
-/// The Draw of customer 7's second client.
-const DRAW_10: &[u8] = b"S1\x01\x02\0\0\0\x07\0\0\0\x0aRAGB";
-
-/// The reply to it.
-const DRAWN_10: &[u8] = b"S1\x01\x82\0\0\0\x07\0\0\0\x0aRAGB\0\0\0\x4e\x20RA000000005GB";
-
-/// The reply to the Draw of customer 7's first client.
-const DRAWN_1: &[u8] = b"S1\x01\x82\0\0\0\x07\0\0\0\x01RAGB\0\0\0\x4e\x20RA000000014GB";
 
 /// The clients that submitted, and the datagrams of their requests.
 const SUBMITTED: &'static [(u32, &'static [u8])] = &[(0, GRANT), (1, DRAW), (2, DRAW_10)];
@@ -25,8 +18,6 @@ const SUBMITTED: &'static [(u32, &'static [u8])] = &[(0, GRANT), (1, DRAW), (2, 
 const ACCEPTED: &'static [(u32, &'static [u8])] = &[(0, GRANTED), (1, DRAWN_1)];
 
 const ASKED: &'static [&'static [u8]] = &[GRANT, DRAW, DRAW_10];
-
-const REPLIED: &'static [&'static [u8]] = &[GRANTED, DRAWN_10, DRAWN_1, DRAWN_10, DRAWN_1];
 
 /// Returns whether these clients submitted exactly these requests, in this order.
 fn are_submitted(submitted: &[(u32, Request)], told: &[(u32, &[u8])]) -> bool {
@@ -76,11 +67,11 @@ fn are_reported<B: Book>(rt: &impl Abort, world: &World<B>) {
     assert!(rt; are_submitted(world.submitted(), SUBMITTED));
     assert!(rt; are_accepted(world.accepted(), ACCEPTED));
     assert!(rt; are_frames(world.asked(), ASKED));
-    assert!(rt; are_frames(world.replied(), REPLIED));
+    assert!(rt; are_frames(world.replied(), STORY_REPLIES));
 }
 
 /// Asserts that a book has the three calls of the story.
-fn are_held<B: Book>(rt: &impl Abort, book: &mut B) {
+fn are_held<B: Book>(rt: &(impl Abort + Eprint), book: &mut B) {
     assert!(rt; book.len() == 3);
     assert!(rt; holds(book, 1, GRANT, GRANTED));
     assert!(rt; holds(book, 2, DRAW_10, DRAWN_10));

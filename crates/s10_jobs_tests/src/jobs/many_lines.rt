@@ -1,10 +1,10 @@
 //! A replay of the greatest number of lines that an input may have, and of one more.
 
-use crate::expect::holds;
 use s10_book::PlainBook;
 use s10_ends::Server;
 use s10_history::Settings;
 use s10_jobs::{ReplayFault, replay_on};
+use s10_test_help::expect::holds;
 use std::alloc::Global;
 use std::io;
 use std::io::{Read, Write};
@@ -77,6 +77,6 @@ const LONG_INPUTS: &[(u32, Result<u32, ReplayFault>, u32, usize)] = &[
 fn the_line_past_the_millionth_is_refused(rt: HostRuntime) {
     for (empty, want, written, left) in LONG_INPUTS {
         let is_replayed = is_replayed(rt.alloc(), *empty, *want, *written, *left);
-        holds(&rt, empty, is_replayed);
+        assert!(rt; holds(&rt, empty, is_replayed));
     }
 }

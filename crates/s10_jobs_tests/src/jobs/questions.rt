@@ -2,14 +2,15 @@
 
 ghost use Rattle.std.specs.Prelude.{◌≤◌};
 
-use crate::expect::{holds, is_text};
-use crate::jobs::refusing::Refusing;
 use crate::links::{Meets, link_of};
-use s10_core::{Country, Service};
 use s10_ends::Client;
 use s10_jobs::{JobStatus, ask};
 use s10_lines::WriteFault;
 use s10_link::{Link, Peer, ScriptLink};
+use s10_test_help::asked::Asked;
+use s10_test_help::datagrams::DRAWN;
+use s10_test_help::expect::{holds, is_text};
+use s10_test_help::refusing::Refusing;
 use s10_wire::Body;
 use std::alloc::Global;
 
@@ -18,18 +19,8 @@ const SERVER: Peer = Peer {
     port: 4711,
 };
 
-// RA000000005GB, issued on day 20000 to customer 7's Draw of RA GB with number 1.
-const DRAWN: &[u8] = b"S1\x01\x82\0\0\0\x07\0\0\0\x01RAGB\0\0\0\x4e\x20RA000000005GB";
-
-// NoneFree, in reply to the same Draw.
+// NoneFree, in reply to customer 7's first Draw.
 const NONE_FREE: &[u8] = b"S1\x01\x82\0\0\0\x07\0\0\0\x01RAGB\x05";
-
-fn draw() -> Body {
-    Body::Draw {
-        service: Service::new(*b"RA").unwrap(),
-        country: Country::new(*b"GB").unwrap(),
-    }
-}
 
 /// Returns whether a call has this status and prints this line, in 1 to 100 tries.
 fn is_reported<L: Link>(
@@ -64,8 +55,23 @@ fn is_asked_once(
     };
     let mut client = Client::new(7, 1, 1).unwrap();
     let then = JobStatus::CommandLine;
-    is_reported(alloc, &mut client, &mut link, draw(), 2, status, line)
-        && is_reported(alloc, &mut client, &mut link, draw(), 2, then, "")
+    is_reported(
+        alloc,
+        &mut client,
+        &mut link,
+        Asked::Draw.body(),
+        2,
+        status,
+        line,
+    ) && is_reported(
+        alloc,
+        &mut client,
+        &mut link,
+        Asked::Draw.body(),
+        2,
+        then,
+        "",
+    )
 }
 
 /// Which sends succeed, and what is printed.
@@ -79,7 +85,7 @@ const UNANSWERED: &[(&[bool], &str)] = &[
 fn a_call_without_a_reply_prints_its_fault(rt: HostRuntime) {
     for (sends, line) in UNANSWERED {
         let is_asked = is_asked_once(rt.alloc(), &[], sends, JobStatus::Failed, line);
-        holds(&rt, line, is_asked);
+        assert!(rt; holds(&rt, line, is_asked));
     }
 }
 
@@ -113,7 +119,7 @@ fn the_reply_to_a_call_is_printed(rt: HostRuntime) {
     for (at_once, late, status, line) in ANSWERS {
         let is_first = is_asked_once(rt.alloc(), at_once, &[true], *status, line);
         let is_second = is_asked_once(rt.alloc(), late, &[true, true], *status, line);
-        holds(&rt, line, is_first && is_second);
+        assert!(rt; holds(&rt, line, is_first && is_second));
     }
 }
 
@@ -177,7 +183,7 @@ const WITHDRAWALS: &[(&[u8], JobStatus, &str)] = &[
 #[test]
 fn the_reply_to_a_withdrawal_is_printed(rt: HostRuntime) {
     for (reply, status, line) in WITHDRAWALS {
-        holds(&rt, line, is_withdrawn(rt.alloc(), reply, *status, line));
+        assert!(rt; holds(&rt, line, is_withdrawn(rt.alloc(), reply, *status, line)));
     }
 }
 
@@ -187,7 +193,14 @@ fn is_made_unwritten(alloc: Global) -> bool {
         return false;
     };
     let mut client = Client::new(7, 1, 1).unwrap();
-    ask(&mut client, &mut link, SERVER, draw(), 1, &mut Refusing) == Err(WriteFault)
+    ask(
+        &mut client,
+        &mut link,
+        SERVER,
+        Asked::Draw.body(),
+        1,
+        &mut Refusing,
+    ) == Err(WriteFault)
         && link.log().len() == 1
         && client.pending().is_none()
 }

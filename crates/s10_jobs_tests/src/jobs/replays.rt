@@ -1,8 +1,8 @@
 //! Replays of inputs over a new ledger.
 
-use crate::expect::{holds, is_text};
 use s10_history::Settings;
 use s10_jobs::{JobStatus, ReplayFault, replay, run_replay};
+use s10_test_help::expect::{holds, is_text};
 use std::alloc::Global;
 use std::io;
 use std::io::{ErrorKind, Read, Write};
@@ -176,7 +176,7 @@ const SMALL_INPUTS: &[Case] = &[
 #[test]
 fn small_inputs_are_read_as_lines(rt: HostRuntime) {
     for (bytes, want, text) in SMALL_INPUTS {
-        holds(&rt, bytes, is_replayed(rt.alloc(), bytes, *want, text));
+        assert!(rt; holds(&rt, bytes, is_replayed(rt.alloc(), bytes, *want, text)));
     }
 }
 
@@ -205,8 +205,8 @@ fn is_read_whole(alloc: Global, len: usize) -> bool {
 
 #[test]
 fn longest_line_is_read_whole(rt: HostRuntime) {
-    holds(&rt, &1036, is_read_whole(rt.alloc(), 1036));
-    holds(&rt, &1037, is_read_whole(rt.alloc(), 1037));
+    assert!(rt; holds(&rt, &1036, is_read_whole(rt.alloc(), 1036)));
+    assert!(rt; holds(&rt, &1037, is_read_whole(rt.alloc(), 1037)));
 }
 
 /// A digit for each byte of the longest line.
@@ -216,12 +216,14 @@ const ZEROS: [u8; 1037] = [b'0'; 1037];
 fn longer_line_is_refused_without_reading_more(rt: HostRuntime) {
     let line = ZEROS;
     let (read, refused) = (ReplayFault::Read, ReplayFault::Line(1));
-    holds(
-        &rt,
-        &1036,
-        is_read_until(rt.alloc(), &line[..1036], read, ""),
+    assert!(rt;
+        holds(
+            &rt,
+            &1036,
+            is_read_until(rt.alloc(), &line[..1036], read, ""),
+        )
     );
-    holds(&rt, &1037, is_read_until(rt.alloc(), &line, refused, ""));
+    assert!(rt; holds(&rt, &1037, is_read_until(rt.alloc(), &line, refused, "")));
 }
 
 #[test]
@@ -366,7 +368,7 @@ fn stops_there(
 fn a_refused_line_is_not_reported_as_unreadable_input(rt: HostRuntime) {
     for (bytes, ends, fails, text) in STOPS {
         let stops = stops_there(rt.alloc(), bytes, *ends, *fails, text);
-        holds(&rt, bytes, stops);
+        assert!(rt; holds(&rt, bytes, stops));
     }
 }
 
@@ -400,7 +402,7 @@ const UNREADABLE: &[(&[u8], JobStatus, &str)] = &[
 #[test]
 fn an_input_that_fails_has_its_line_and_status(rt: HostRuntime) {
     for (bytes, status, text) in UNREADABLE {
-        holds(&rt, bytes, is_run_until(rt.alloc(), bytes, *status, text));
+        assert!(rt; holds(&rt, bytes, is_run_until(rt.alloc(), bytes, *status, text)));
     }
 }
 
@@ -422,6 +424,6 @@ const ROOMS: &[(usize, Result<u32, ReplayFault>)] = &[
 #[test]
 fn writer_that_fails_ends_the_replay(rt: HostRuntime) {
     for (room, want) in ROOMS {
-        holds(&rt, room, is_replayed_into(rt.alloc(), *room, *want));
+        assert!(rt; holds(&rt, room, is_replayed_into(rt.alloc(), *room, *want)));
     }
 }

@@ -1,13 +1,13 @@
 //! Reports, and the lines of those that end early.
 
-use crate::expect::{holds, is_text};
-use crate::jobs::hiccup::Hiccup;
-use crate::jobs::refusing::Refusing;
 use s10_book::{Book, PlainBook, TripBook};
 use s10_ends::Server;
 use s10_history::Settings;
 use s10_jobs::{ClockDays, JobStatus, Report, write_report};
 use s10_lines::WriteFault;
+use s10_test_help::expect::{holds, is_text};
+use s10_test_help::hiccup::Hiccup;
+use s10_test_help::refusing::Refusing;
 use std::alloc::Global;
 use std::io::Write;
 use std::process::Abort;
@@ -50,11 +50,13 @@ fn prints<B: Book + Drop>(
 }
 
 /// Asserts that a report of this book is done and prints this text.
-fn is_done<R: Abort + AllocGlobal>(rt: &R, book: PlainBook, report: Report, text: &str) {
-    holds(
-        rt,
-        &text,
-        prints(rt.alloc(), book, report, JobStatus::Done, text),
+fn is_done<R: Abort + Eprint + AllocGlobal>(rt: &R, book: PlainBook, report: Report, text: &str) {
+    assert!(rt;
+        holds(
+            rt,
+            &text,
+            prints(rt.alloc(), book, report, JobStatus::Done, text),
+        )
     );
 }
 
@@ -131,7 +133,7 @@ fn prints_fault(alloc: Global, report: Report, text: &str) -> bool {
 #[test]
 fn a_fault_of_the_book_ends_a_report(rt: HostRuntime) {
     for (report, text) in FAULTED {
-        holds(&rt, text, prints_fault(rt.alloc(), *report, text));
+        assert!(rt; holds(&rt, text, prints_fault(rt.alloc(), *report, text)));
     }
 }
 

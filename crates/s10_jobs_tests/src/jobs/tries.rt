@@ -1,7 +1,7 @@
 //! The number of tries of a call.
 
-use crate::expect::holds;
 use s10_jobs::Tries;
+use s10_test_help::expect::holds;
 
 /// Returns the number of tries that this value gives, if any.
 fn counted(count: u32) -> Option<u32> {
@@ -15,6 +15,6 @@ const TRIES: &[(u32, Option<u32>)] = &[(0, None), (1, Some(1)), (100, Some(100))
 #[test]
 fn tries_are_1_to_100(rt: HostRuntime) {
     for (count, want) in TRIES {
-        holds(&rt, count, counted(*count) == *want);
+        assert!(rt; holds(&rt, count, counted(*count) == *want));
     }
 }

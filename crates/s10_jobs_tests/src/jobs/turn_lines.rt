@@ -1,14 +1,15 @@
 //! The lines of a server's turns, and of faults of ledgers and links.
 
-use crate::expect::{holds, is_text};
-use crate::jobs::hiccup::Hiccup;
-use crate::jobs::refusing::Refusing;
 use s10_book::BookFault;
 use s10_ends::{ServerTurn, Turn};
 use s10_jobs::{write_ledger_fault, write_link_fault, write_turn};
 use s10_lines::WriteFault;
 use s10_link::{LinkFault, Peer};
 use s10_rows::OpenFault;
+use s10_test_help::datagrams::DRAWN;
+use s10_test_help::expect::{holds, is_text};
+use s10_test_help::hiccup::Hiccup;
+use s10_test_help::refusing::Refusing;
 use s10_wire::{WireFault, decode_reply, encode_reply};
 use std::alloc::Global;
 
@@ -16,8 +17,6 @@ const PEER: Peer = Peer {
     ip: [10, 0, 0, 1],
     port: 4711,
 };
-
-const REPLY: &[u8] = b"S1\x01\x82\0\0\0\x07\0\0\0\x01RAGB\0\0\0\x4e\x20RA000000005GB";
 
 /// How a turn ends.
 #[derive(Clone, Copy)]
@@ -94,7 +93,7 @@ const TURNS: &[(Ends, &str)] = &[
     (Ends::Faulted(BookFault::Memory), "faulted memory\n"),
     (Ends::Uncommitted(BookFault::Store), "uncommitted store\n"),
     (
-        Ends::Replied(REPLY),
+        Ends::Replied(DRAWN),
         "replied 533101820000000700000001524147420000004e2052413030303030303030354742\n",
     ),
     (Ends::Failed(LinkFault::Receive), "link receive\n"),
@@ -105,7 +104,7 @@ const TURNS: &[(Ends, &str)] = &[
 fn turns_have_their_lines(rt: HostRuntime) {
     for (ends, line) in TURNS {
         let is_line = is_line_of_turn(rt.alloc(), &turn(*ends), line.as_bytes());
-        holds(&rt, line, is_line);
+        assert!(rt; holds(&rt, line, is_line));
     }
 }
 
@@ -135,7 +134,7 @@ const LEDGER_FAULTS: &[(OpenFault, &str)] = &[
 #[test]
 fn ledger_faults_have_their_lines(rt: HostRuntime) {
     for (fault, line) in LEDGER_FAULTS {
-        holds(&rt, line, is_line_of_ledger_fault(rt.alloc(), *fault, line));
+        assert!(rt; holds(&rt, line, is_line_of_ledger_fault(rt.alloc(), *fault, line)));
     }
 }
 
@@ -149,6 +148,6 @@ const LINK_FAULTS: &[(LinkFault, &str)] = &[
 #[test]
 fn link_faults_have_their_lines(rt: HostRuntime) {
     for (fault, line) in LINK_FAULTS {
-        holds(&rt, line, is_line_of_link_fault(rt.alloc(), *fault, line));
+        assert!(rt; holds(&rt, line, is_line_of_link_fault(rt.alloc(), *fault, line)));
     }
 }

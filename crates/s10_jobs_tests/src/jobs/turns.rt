@@ -1,7 +1,5 @@
 //! Turns of a server, and what is printed about them.
 
-use crate::expect::holds;
-use crate::jobs::hiccup::Hiccup;
 use crate::links::{Meets, link_of};
 use s10_book::{Book, GroupCommit, LastFailure, PlainBook, TripBook};
 use s10_ends::Server;
@@ -9,6 +7,9 @@ use s10_history::Settings;
 use s10_jobs::{ClockDays, Days, JobStatus, next_day, serve_turns, today};
 use s10_lines::WriteFault;
 use s10_link::{Link, Peer};
+use s10_test_help::datagrams::{DRAW, GRANT, SECOND_DRAW};
+use s10_test_help::expect::holds;
+use s10_test_help::hiccup::Hiccup;
 use std::alloc::Global;
 use std::cell::{Cell, RefCell};
 use std::fmt::Display;
@@ -20,12 +21,6 @@ const PEER: Peer = Peer {
     ip: [10, 0, 0, 7],
     port: 4711,
 };
-
-const GRANT: &[u8] = b"S1\x01\x01\0\0\0\0\0\0\0\x01\0\0\0\x07RAGB\0\0\0\0\0\0\0\x02";
-
-const DRAW: &[u8] = b"S1\x01\x02\0\0\0\x07\0\0\0\x01RAGB";
-
-const ONE_MORE: &[u8] = b"S1\x01\x02\0\0\0\x07\0\0\0\x02RAGB";
 
 /// A clock that always gives this time, or fails if there is none. Standard error is closed.
 #[derive(Drop)]
@@ -120,7 +115,7 @@ const SEVEN: &[Meets] = &[
     Meets::Bytes(PEER, b"S1"),
     Meets::Bytes(PEER, DRAW),
     Meets::Bytes(PEER, DRAW),
-    Meets::Bytes(PEER, ONE_MORE),
+    Meets::Bytes(PEER, SECOND_DRAW),
 ];
 
 /// Whether each reply to them is sent.
@@ -263,7 +258,7 @@ const TURNS: &[(u32, u32, u32)] = &[
 fn each_turn_has_its_line(rt: HostRuntime) {
     for (count, batches, calls) in TURNS {
         let turns = first_turns(*count, *batches, *calls);
-        holds(&rt, count, are_served(&rt, rt.alloc(), &turns));
+        assert!(rt; holds(&rt, count, are_served(&rt, rt.alloc(), &turns)));
     }
 }
 
@@ -346,7 +341,7 @@ const REPORTED: &[(u32, u32, &str)] = &[
 #[test]
 fn senders_of_dropped_datagrams_go_to_standard_error(rt: HostRuntime) {
     for (count, batches, told) in REPORTED {
-        holds(&rt, count, are_reported(rt.alloc(), *count, *batches, told));
+        assert!(rt; holds(&rt, count, are_reported(rt.alloc(), *count, *batches, told)));
     }
 }
 
@@ -398,7 +393,7 @@ const NAMED: &[(u64, &str)] = &[
 #[test]
 fn a_sender_is_named_once_in_a_minute(rt: HostRuntime) {
     for (step, told) in NAMED {
-        holds(&rt, step, are_named_by(rt.alloc(), *step, told));
+        assert!(rt; holds(&rt, step, are_named_by(rt.alloc(), *step, told)));
     }
 }
 
@@ -439,7 +434,7 @@ const FAILURES: &[(u64, &str)] = &[
 #[test]
 fn a_failure_of_the_book_is_named_once(rt: HostRuntime) {
     for (at, told) in FAILURES {
-        holds(&rt, at, is_shown_of_a_failure(rt.alloc(), *at, told));
+        assert!(rt; holds(&rt, at, is_shown_of_a_failure(rt.alloc(), *at, told)));
     }
 }
 
@@ -539,7 +534,7 @@ const DAYS: &[(u64, Option<u32>)] = &[
 #[test]
 fn days_are_whole_days_since_1970(rt: HostRuntime) {
     for (seconds, day) in DAYS {
-        holds(&rt, seconds, is_day_after(*seconds, *day));
+        assert!(rt; holds(&rt, seconds, is_day_after(*seconds, *day)));
     }
     let clock = Standing(None);
     let mut days = ClockDays { clock: &clock };
@@ -591,6 +586,6 @@ fn ends_unwritten<R: Clock + Eprint>(alloc: Global, rt: &R, room: usize) -> bool
 #[test]
 fn a_writer_that_fails_ends_the_turns(rt: HostRuntime) {
     for room in 0..SEVEN_LINES.len() {
-        holds(&rt, &room, ends_unwritten(rt.alloc(), &rt, room));
+        assert!(rt; holds(&rt, &room, ends_unwritten(rt.alloc(), &rt, room)));
     }
 }
