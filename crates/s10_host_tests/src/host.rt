@@ -9,5 +9,4 @@ mod ledgers;
 mod loopback;
 mod questions;
 mod refused_files;
-mod refusing;
 mod serving;

@@ -3,8 +3,6 @@
 #![tactic(auto)]
 
 #[cfg(test)]
-mod expect;
-#[cfg(test)]
 mod host;
 #[cfg(test)]
 mod ledger;

@@ -1,11 +1,12 @@
 //! The buffered output of a command line.
 
-use crate::host::refusing::Refusing;
 use s10_cli::run_buffered;
+use s10_test_help::refusing::Refusing;
+use s10_test_help::words::Words;
 use std::io;
 use std::io::Write;
 
-const CHECK: &[&str] = &["s10", "check", "RA473124829US"];
+const CHECK: &str = "s10 check RA473124829US";
 
 /// The line that it prints.
 const REGISTERED: &str = "RA473124829US valid registered\n";
@@ -14,7 +15,7 @@ const NOTHING: &[u8] = b"";
 
 /// Returns the status of a check and the output after it, or `None` if the output fails.
 fn checked<R: Eprint + AllocGlobal, W: Write + Drop>(rt: &R, output: W) -> Option<(Option<u8>, W)> {
-    run_buffered(rt, CHECK, NOTHING, output).ok()
+    run_buffered(rt, Words::of(CHECK).as_slice(), NOTHING, output).ok()
 }
 
 /// Returns whether a check is done and its line is in the output.

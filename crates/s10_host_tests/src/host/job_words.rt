@@ -1,136 +1,58 @@
 //! The jobs that command lines ask for.
 
-use crate::expect::holds;
 use crate::host::command_lines::prints;
 use crate::host::job_words::Subcommand::{
     Audit, Create, Draw, Grant, Loop, Query, Report, Serve, Void, Withdraw,
 };
 use s10_cli::{parse_job, run_line};
+use s10_test_help::expect::holds;
+use s10_test_help::words::Words;
 use std::alloc::Global;
 use std::fmt::Debug;
 use std::process::Abort;
 
-/// The words of a command line, and the `Debug` text of the job that they ask for.
-type Line = (&'static [&'static str], &'static str);
+/// A command line, and the `Debug` text of the job that it asks for.
+type Line = (&'static str, &'static str);
 
 /// Each subcommand of the program, with its required options only.
 const LINES: &[Line] = &[
     (
-        &[
-            "s10",
-            "create",
-            "--ledger",
-            "a.db",
-            "--interval",
-            "30",
-            "--limit",
-            "100",
-        ],
+        "s10 create --ledger a.db --interval 30 --limit 100",
         r#"Some(Create { ledger: "a.db", settings: Settings { interval: 30, limit: 100 } })"#,
     ),
     (
-        &[
-            "s10",
-            "serve",
-            "--ledger",
-            "a.db",
-            "--bind",
-            "0.0.0.0:0",
-            "--count",
-            "3",
-        ],
+        "s10 serve --ledger a.db --bind 0.0.0.0:0 --count 3",
         r#"Some(Serve { ledger: "a.db", bind: "0.0.0.0:0", count: 3, day: None })"#,
     ),
     (
-        &[
-            "s10",
-            "grant",
-            "--to",
-            "127.0.0.1:4711",
-            "--number",
-            "1",
-            "--holder",
-            "7",
-            "--service",
-            "RA",
-            "--country",
-            "GB",
-            "--first",
-            "0",
-            "--last",
-            "2",
-        ],
+        "s10 grant --to 127.0.0.1:4711 --number 1 --holder 7 --service RA --country GB --first 0 --last 2",
         r#"Some(Ask(Question { to: "127.0.0.1:4711", customer: 0, number: 1, body: Grant { holder: 7, service: "RA", country: "GB", first: Serial { value: 0 }, last: Serial { value: 2 } }, tries: Tries { count: 5 } }))"#,
     ),
     (
-        &[
-            "s10",
-            "draw",
-            "--to",
-            "127.0.0.1:4711",
-            "--customer",
-            "7",
-            "--number",
-            "1",
-            "--service",
-            "RA",
-            "--country",
-            "GB",
-        ],
+        "s10 draw --to 127.0.0.1:4711 --customer 7 --number 1 --service RA --country GB",
         r#"Some(Ask(Question { to: "127.0.0.1:4711", customer: 7, number: 1, body: Draw { service: "RA", country: "GB" }, tries: Tries { count: 5 } }))"#,
     ),
     (
-        &[
-            "s10",
-            "void",
-            "--to",
-            "127.0.0.1:4711",
-            "--customer",
-            "7",
-            "--number",
-            "3",
-            "--id",
-            "RA000000005GB",
-        ],
+        "s10 void --to 127.0.0.1:4711 --customer 7 --number 3 --id RA000000005GB",
         r#"Some(Ask(Question { to: "127.0.0.1:4711", customer: 7, number: 3, body: Void { id: "RA000000005GB" }, tries: Tries { count: 5 } }))"#,
     ),
     (
-        &[
-            "s10",
-            "query",
-            "--to",
-            "127.0.0.1:4711",
-            "--customer",
-            "7",
-            "--number",
-            "4",
-            "--id",
-            "RA000000005GB",
-        ],
+        "s10 query --to 127.0.0.1:4711 --customer 7 --number 4 --id RA000000005GB",
         r#"Some(Ask(Question { to: "127.0.0.1:4711", customer: 7, number: 4, body: Query { id: "RA000000005GB" }, tries: Tries { count: 5 } }))"#,
     ),
     (
-        &[
-            "s10",
-            "withdraw",
-            "--to",
-            "127.0.0.1:4711",
-            "--number",
-            "5",
-            "--range",
-            "1",
-        ],
+        "s10 withdraw --to 127.0.0.1:4711 --number 5 --range 1",
         r#"Some(Ask(Question { to: "127.0.0.1:4711", customer: 0, number: 5, body: Withdraw { range: 1 }, tries: Tries { count: 5 } }))"#,
     ),
     (
-        &["s10", "report", "--ledger", "a.db"],
+        "s10 report --ledger a.db",
         r#"Some(Report { ledger: "a.db", is_of_issues: false, day: None })"#,
     ),
     (
-        &["s10", "audit", "--ledger", "a.db"],
+        "s10 audit --ledger a.db",
         r#"Some(Audit { ledger: "a.db" })"#,
     ),
-    (&["s10", "loop"], "Some(Loop { day: None })"),
+    ("s10 loop", "Some(Loop { day: None })"),
 ];
 
 /// Returns `LINES`.
@@ -175,9 +97,10 @@ fn asks(alloc: Global, words: &[&str], job: &str) -> bool {
 }
 
 /// Asserts that each line asks for its job.
-fn ask_as_shown<R: AllocGlobal + Abort>(rt: &R, lines: &[Line]) {
-    for (words, job) in lines {
-        holds(rt, words, asks(rt.alloc(), words, job));
+fn ask_as_shown<R: AllocGlobal + Abort + Eprint>(rt: &R, lines: &[Line]) {
+    for (line, job) in lines {
+        let words = Words::of(line);
+        assert!(rt; holds(rt, line, asks(rt.alloc(), words.as_slice(), job)));
     }
 }
 
@@ -190,57 +113,28 @@ fn is_silent<R: Eprint + AllocGlobal>(rt: &R, words: &[&str], status: Option<u8>
 
 #[test]
 fn jobs_over_files_or_sockets_are_left_to_the_program(rt: HostRuntime) {
-    for (words, _) in lines() {
-        holds(&rt, words, is_silent(&rt, words, None));
+    for (line, _) in lines() {
+        let words = Words::of(line);
+        assert!(rt; holds(&rt, line, is_silent(&rt, words.as_slice(), None)));
     }
     ask_as_shown(&rt, lines());
 }
 
 const OPTIONS: &[Line] = &[
     (
-        &[
-            "s10",
-            "draw",
-            "--count",
-            "16",
-            "--to",
-            "127.0.0.1:4711",
-            "--customer",
-            "7",
-            "--number",
-            "1",
-            "--service",
-            "RA",
-            "--country",
-            "GB",
-        ],
+        "s10 draw --count 16 --to 127.0.0.1:4711 --customer 7 --number 1 --service RA --country GB",
         r#"Some(Ask(Question { to: "127.0.0.1:4711", customer: 7, number: 1, body: DrawMany { service: "RA", country: "GB", count: Count { value: 16 } }, tries: Tries { count: 5 } }))"#,
     ),
     (
-        &[
-            "s10",
-            "serve",
-            "--day",
-            "4294967295",
-            "--count=4294967295",
-            "--bind",
-            "",
-            "--ledger",
-            "",
-        ],
+        "s10 serve --day 4294967295 --count=4294967295 --bind '' --ledger ''",
         r#"Some(Serve { ledger: "", bind: "", count: 4294967295, day: Some(4294967295) })"#,
     ),
     (
-        &[
-            "s10", "report", "--day", "0", "--issues", "--ledger", "a b.db",
-        ],
+        "s10 report --day 0 --issues --ledger 'a b.db'",
         r#"Some(Report { ledger: "a b.db", is_of_issues: true, day: Some(0) })"#,
     ),
-    (
-        &["s10", "loop", "--day", "20000"],
-        "Some(Loop { day: Some(20000) })",
-    ),
-    (&["s10", "check", "RA473124829US"], "None"),
+    ("s10 loop --day 20000", "Some(Loop { day: Some(20000) })"),
+    ("s10 check RA473124829US", "None"),
 ];
 
 #[test]
@@ -250,55 +144,19 @@ fn options_that_may_be_left_out_are_read(rt: HostRuntime) {
 
 const LIMITS: &[Line] = &[
     (
-        &[
-            "s10",
-            "create",
-            "--ledger",
-            "a.db",
-            "--interval",
-            "3650",
-            "--limit",
-            "1000000000",
-        ],
+        "s10 create --ledger a.db --interval 3650 --limit 1000000000",
         r#"Some(Create { ledger: "a.db", settings: Settings { interval: 3650, limit: 1000000000 } })"#,
     ),
     (
-        &[
-            "s10",
-            "grant",
-            "--tries",
-            "100",
-            "--last",
-            "99999999",
-            "--first",
-            "99999998",
-            "--country",
-            "gb",
-            "--service",
-            "",
-            "--holder",
-            "4294967295",
-            "--number",
-            "4294967295",
-            "--to",
-            "post",
-        ],
+        "s10 grant --tries 100 --last 99999999 --first 99999998 --country gb --service '' --holder 4294967295 --number 4294967295 --to post",
         r#"Some(Ask(Question { to: "post", customer: 0, number: 4294967295, body: Grant { holder: 4294967295, service: "", country: "gb", first: Serial { value: 99999998 }, last: Serial { value: 99999999 } }, tries: Tries { count: 100 } }))"#,
     ),
     (
-        &[
-            "s10", "withdraw", "--tries", "1", "--range", "0", "--number", "0", "--to", "",
-        ],
+        "s10 withdraw --tries 1 --range 0 --number 0 --to ''",
         r#"Some(Ask(Question { to: "", customer: 0, number: 0, body: Withdraw { range: 0 }, tries: Tries { count: 1 } }))"#,
     ),
     (
-        &[
-            "s10",
-            "withdraw",
-            "--range=4294967295",
-            "--number=4294967295",
-            "--to=post",
-        ],
+        "s10 withdraw --range=4294967295 --number=4294967295 --to=post",
         r#"Some(Ask(Question { to: "post", customer: 0, number: 4294967295, body: Withdraw { range: 4294967295 }, tries: Tries { count: 5 } }))"#,
     ),
 ];
@@ -334,15 +192,15 @@ fn is_required<R: Eprint + AllocGlobal>(rt: &R, words: &[&str], option: &str) ->
 fn options_are_required<R: Eprint + AllocGlobal + Abort>(rt: &R, words: &[&str]) {
     for word in words {
         if word.starts_with("--") {
-            holds(rt, &(words, word), is_required(rt, words, word));
+            assert!(rt; holds(rt, &(words, word), is_required(rt, words, word)));
         }
     }
 }
 
 #[test]
 fn each_option_but_the_day_and_the_tries_is_required(rt: HostRuntime) {
-    for (words, _) in lines() {
-        options_are_required(&rt, words);
+    for (line, _) in lines() {
+        options_are_required(&rt, Words::of(line).as_slice());
     }
 }
 
@@ -391,19 +249,19 @@ type Reach = (
 /// Returns whether the line with the new value asks for its job with the field changed.
 fn reaches(alloc: Global, reach: &Reach) -> bool {
     let (subcommand, option, value, field, changed) = reach;
-    let Some((words, job)) = line_of(*subcommand) else {
+    let Some((line, job)) = line_of(*subcommand) else {
         return false;
     };
-    match with_value(alloc, words, option, value) {
+    match with_value(alloc, Words::of(line).as_slice(), option, value) {
         Some(words) => ask_but_for(alloc, &words, job, field, changed),
         None => false,
     }
 }
 
 /// Asserts that each value reaches its own field.
-fn reach_their_fields<R: AllocGlobal + Abort>(rt: &R, values: &[Reach]) {
+fn reach_their_fields<R: AllocGlobal + Abort + Eprint>(rt: &R, values: &[Reach]) {
     for reach in values {
-        holds(rt, reach, reaches(rt.alloc(), reach));
+        assert!(rt; holds(rt, reach, reaches(rt.alloc(), reach)));
     }
 }
 
@@ -608,10 +466,10 @@ type Edit = (Subcommand, &'static str, &'static str);
 /// Returns whether the line with the new value is no command line.
 fn is_refused<R: Eprint + AllocGlobal>(rt: &R, edit: &Edit) -> bool {
     let (subcommand, option, value) = edit;
-    let Some((words, _)) = line_of(*subcommand) else {
+    let Some((line, _)) = line_of(*subcommand) else {
         return false;
     };
-    match with_value(rt.alloc(), words, option, value) {
+    match with_value(rt.alloc(), Words::of(line).as_slice(), option, value) {
         Some(words) => is_silent(rt, &words, Some(2)),
         None => false,
     }
@@ -620,7 +478,7 @@ fn is_refused<R: Eprint + AllocGlobal>(rt: &R, edit: &Edit) -> bool {
 /// Asserts that no line is a command line with its new value.
 fn are_refused<R: Eprint + AllocGlobal + Abort>(rt: &R, edits: &[Edit]) {
     for edit in edits {
-        holds(rt, edit, is_refused(rt, edit));
+        assert!(rt; holds(rt, edit, is_refused(rt, edit)));
     }
 }
 
@@ -736,7 +594,8 @@ fn is_explained<R: Eprint + AllocGlobal>(rt: &R, words: &[&str]) -> bool {
 
 #[test]
 fn help_names_the_options(rt: HostRuntime) {
-    for (words, _) in lines() {
-        holds(&rt, words, is_explained(&rt, words));
+    for (line, _) in lines() {
+        let words = Words::of(line);
+        assert!(rt; holds(&rt, line, is_explained(&rt, words.as_slice())));
     }
 }

@@ -1,9 +1,10 @@
 //! Jobs of command lines.
 
-use crate::expect::holds;
 use s10_cli::parse_job;
 use s10_host::run_job;
 use s10_jobs::{ClockDays, Job, JobStatus};
+use s10_test_help::expect::holds;
+use s10_test_help::words::Words;
 use sqlite::Unknown;
 
 /// Returns whether a job ends with this status and prints this line.
@@ -14,65 +15,38 @@ fn is_ended(rt: &HostRuntime, job: &Job<'_>, status: JobStatus, line: &str) -> b
     ended == Ok(status) && output.as_slice() == line.as_bytes()
 }
 
-/// Returns the same for the job of a command line.
-pub(crate) fn ends_with(rt: &HostRuntime, words: &[&str], status: JobStatus, line: &str) -> bool {
-    match parse_job(rt.alloc(), words) {
+/// Returns the same for the job that a command line asks for.
+pub(crate) fn ends_with(rt: &HostRuntime, asked: &str, status: JobStatus, line: &str) -> bool {
+    match parse_job(rt.alloc(), Words::of(asked).as_slice()) {
         Ok(Some(job)) => is_ended(rt, &job, status, line),
         _ => false,
     }
 }
 
-/// Words of a command line, and the status and the line of its job.
-const CASES: &[(&[&str], JobStatus, &str)] = &[
+/// A command line, and the status and the line of its job.
+const CASES: &[(&str, JobStatus, &str)] = &[
     (
-        &[
-            "s10",
-            "create",
-            "--ledger",
-            "nowhere/a.db",
-            "--interval",
-            "30",
-            "--limit",
-            "100",
-        ],
+        "s10 create --ledger nowhere/a.db --interval 30 --limit 100",
         JobStatus::Failed,
         "ledger store\n",
     ),
     (
-        &[
-            "s10",
-            "serve",
-            "--ledger",
-            "nowhere/a.db",
-            "--bind",
-            "here",
-            "--count",
-            "1",
-        ],
+        "s10 serve --ledger nowhere/a.db --bind here --count 1",
         JobStatus::Refused,
         "refused peer\n",
     ),
     (
-        &[
-            "s10",
-            "serve",
-            "--ledger",
-            "nowhere/a.db",
-            "--bind",
-            "127.0.0.1:0",
-            "--count",
-            "1",
-        ],
+        "s10 serve --ledger nowhere/a.db --bind 127.0.0.1:0 --count 1",
         JobStatus::Failed,
         "ledger store\n",
     ),
     (
-        &["s10", "report", "--ledger", "nowhere/a.db", "--issues"],
+        "s10 report --ledger nowhere/a.db --issues",
         JobStatus::Failed,
         "ledger store\n",
     ),
     (
-        &["s10", "audit", "--ledger", "nothing.db"],
+        "s10 audit --ledger nothing.db",
         JobStatus::Failed,
         "ledger not-a-ledger\n",
     ),
@@ -80,7 +54,7 @@ const CASES: &[(&[&str], JobStatus, &str)] = &[
 
 #[test]
 fn a_job_that_fails_has_its_line_and_status(rt: HostRuntime) {
-    for (words, status, line) in CASES {
-        holds(&rt, words, ends_with(&rt, words, *status, line));
+    for (asked, status, line) in CASES {
+        assert!(rt; holds(&rt, asked, ends_with(&rt, asked, *status, line)));
     }
 }

@@ -1,7 +1,5 @@
 //! The worked ledger of nine calls in tables: its replies, its reports, and its audits.
 
-use crate::expect::holds;
-use crate::host::refusing::Refusing;
 use crate::ledger::calls::{closed, ledger};
 use s10_book::{Book, GroupCommit, PlainBook};
 use s10_ends::{Answer, Delivery, Server};
@@ -12,6 +10,8 @@ use s10_ledger::NoObserver;
 use s10_lines::WriteFault;
 use s10_link::Packet;
 use s10_reports::{write_issues, write_ranges};
+use s10_test_help::expect::holds;
+use s10_test_help::refusing::Refusing;
 use sqlite::{Alter, Connection, MemStore};
 use std::alloc::Global;
 use std::io::Write;
@@ -277,6 +277,6 @@ fn is_found<R: Abort + AllocGlobal>(rt: &R, change: &str, line: &str) -> bool {
 #[test]
 fn one_change_of_the_tables_is_found(rt: HostRuntime) {
     for (change, line) in CHANGES {
-        holds(&rt, change, is_found(&rt, change, line));
+        assert!(rt; holds(&rt, change, is_found(&rt, change, line)));
     }
 }

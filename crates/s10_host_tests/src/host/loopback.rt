@@ -1,9 +1,9 @@
 //! Calls between two sockets of this machine.
 
-use crate::host::refusing::Refusing;
 use s10_host::run_loop;
 use s10_jobs::JobStatus;
 use s10_lines::WriteFault;
+use s10_test_help::refusing::Refusing;
 use std::io::Write;
 use std::net::Net;
 

@@ -1,10 +1,10 @@
 //! Questions with texts that are refused, and questions over sockets.
 
-use crate::expect::holds;
-use crate::host::refusing::Refusing;
 use s10_host::run_job;
 use s10_jobs::{BodyWords, ClockDays, Job, JobStatus, Question, Tries};
 use s10_lines::WriteFault;
+use s10_test_help::expect::holds;
+use s10_test_help::refusing::Refusing;
 use sqlite::Unknown;
 use std::io::Write;
 
@@ -143,6 +143,6 @@ fn asked_is_reported(
 #[test]
 fn a_question_that_is_not_sent_has_its_line(rt: HostRuntime) {
     for (at, (to, asked, status, line)) in CASES.iter().enumerate() {
-        holds(&rt, &at, asked_is_reported(&rt, to, *asked, *status, line));
+        assert!(rt; holds(&rt, &at, asked_is_reported(&rt, to, *asked, *status, line)));
     }
 }

@@ -1,8 +1,8 @@
 //! Jobs over files that are no ledgers: each is refused and leaves its folder unchanged.
 
-use crate::expect::holds;
 use crate::host::jobs::ends_with;
 use s10_jobs::JobStatus;
+use s10_test_help::expect::holds;
 use std::fs;
 
 /// A folder that is created for each case and removed after it.
@@ -10,44 +10,24 @@ const FOLDER: &str = "refused_files_test";
 
 const FILE: &str = "refused_files_test/ledger";
 
-const IN_NO_FOLDER: &str = "refused_files_test/nowhere/ledger";
-
 /// The command line of each job over the file.
-const OVER_FILE: &[&[&str]] = &[
-    &["s10", "audit", "--ledger", FILE],
-    &["s10", "report", "--ledger", FILE, "--day", "20000"],
-    &[
-        "s10",
-        "serve",
-        "--ledger",
-        FILE,
-        "--bind",
-        "127.0.0.1:0",
-        "--count",
-        "1",
-    ],
+const OVER_FILE: &[&str] = &[
+    "s10 audit --ledger refused_files_test/ledger",
+    "s10 report --ledger refused_files_test/ledger --day 20000",
+    "s10 serve --ledger refused_files_test/ledger --bind 127.0.0.1:0 --count 1",
 ];
 
 /// The command line of each job over a path in a folder that does not exist.
-const OVER_NO_FOLDER: &[&[&str]] = &[
-    &["s10", "audit", "--ledger", IN_NO_FOLDER],
-    &["s10", "report", "--ledger", IN_NO_FOLDER, "--day", "20000"],
-    &[
-        "s10",
-        "serve",
-        "--ledger",
-        IN_NO_FOLDER,
-        "--bind",
-        "127.0.0.1:0",
-        "--count",
-        "1",
-    ],
+const OVER_NO_FOLDER: &[&str] = &[
+    "s10 audit --ledger refused_files_test/nowhere/ledger",
+    "s10 report --ledger refused_files_test/nowhere/ledger --day 20000",
+    "s10 serve --ledger refused_files_test/nowhere/ledger --bind 127.0.0.1:0 --count 1",
 ];
 
 /// Returns whether each of the jobs ends with status 3 and this line.
-fn are_refused(rt: &HostRuntime, jobs: &[&[&str]], line: &str) -> bool {
-    for words in jobs {
-        if !ends_with(rt, words, JobStatus::Failed, line) {
+fn are_refused(rt: &HostRuntime, jobs: &[&str], line: &str) -> bool {
+    for job in jobs {
+        if !ends_with(rt, job, JobStatus::Failed, line) {
             return false;
         }
     }
@@ -74,7 +54,7 @@ fn delete_file(rt: &HostRuntime, bytes: &str) -> bool {
 }
 
 /// Returns whether the jobs are refused and the folder is empty after them.
-fn stays_away(rt: &HostRuntime, jobs: &[&[&str]], line: &str) -> bool {
+fn stays_away(rt: &HostRuntime, jobs: &[&str], line: &str) -> bool {
     let refused = make_folder(rt) && are_refused(rt, jobs, line);
     delete_folder(rt) && refused
 }
@@ -89,7 +69,7 @@ fn stays(rt: &HostRuntime, bytes: &str, line: &str) -> bool {
 }
 
 /// Jobs without a file, and the line of each.
-const ABSENT: &[(&[&[&str]], &str)] = &[
+const ABSENT: &[(&[&str], &str)] = &[
     (OVER_FILE, "ledger not-a-ledger\n"),
     (OVER_NO_FOLDER, "ledger store\n"),
 ];
@@ -104,9 +84,9 @@ const OTHERS: &[(&str, &str)] = &[
 #[test]
 fn a_file_that_is_no_ledger_stays_unchanged(rt: HostRuntime) {
     for (jobs, line) in ABSENT {
-        holds(&rt, jobs, stays_away(&rt, jobs, line));
+        assert!(rt; holds(&rt, jobs, stays_away(&rt, jobs, line)));
     }
     for (bytes, line) in OTHERS {
-        holds(&rt, bytes, stays(&rt, bytes, line));
+        assert!(rt; holds(&rt, bytes, stays(&rt, bytes, line)));
     }
 }

@@ -1,10 +1,11 @@
 //! Batches of a server over a ledger whose commit fails once.
 
-use crate::expect::same;
 use crate::ledger::calls::{closed, ledger, settings};
 use s10_book::{Batched, BookFault, GroupCommit, TripBook};
 use s10_ends::{Server, ServerTurn, Turn, serve_batch, serve_batch_of_one};
 use s10_link::{Packet, Peer, Receipt, ScriptLink};
+use s10_test_help::datagrams::{DRAW, DRAWN, GRANT};
+use s10_test_help::expect::same;
 use std::alloc::{AllocError, Global};
 use std::process::Abort;
 
@@ -17,9 +18,6 @@ const OTHER: Peer = Peer {
     ip: [10, 0, 0, 8],
     port: 4712,
 };
-
-// The post's first Grant: RA GB 0 to 2 to customer 7.
-const GRANT: &[u8] = b"S1\x01\x01\0\0\0\0\0\0\0\x01\0\0\0\x07RAGB\0\0\0\0\0\0\0\x02";
 
 // A datagram and its reply. If the commit fails, the reply to a new call is withheld, and a later
 // batch sends it.
@@ -34,8 +32,8 @@ struct Case {
 // Customer 7's first Draw, which is committed before.
 const FIRST: &Case = &Case {
     from: OTHER,
-    request: b"S1\x01\x02\0\0\0\x07\0\0\0\x01RAGB",
-    reply: b"S1\x01\x82\0\0\0\x07\0\0\0\x01RAGB\0\0\0\x4e\x20RA000000005GB",
+    request: DRAW,
+    reply: DRAWN,
     is_new: false,
 };
 
@@ -157,12 +155,12 @@ fn waits<R: Abort + AllocGlobal>(rt: &R, cases: (&Case, &Case), in_batch: bool) 
 }
 
 // Asserts that the failure of only one call of the book, the commit, withholds the replies.
-fn wait_once<R: Abort + AllocGlobal>(rt: &R, first: &Case, second: &Case) {
+fn wait_once<R: Abort + Eprint + AllocGlobal>(rt: &R, first: &Case, second: &Case) {
     let found = (
         waits(rt, (first, second), true),
         waits(rt, (first, first), false),
     );
-    same(rt, &"batches, and turns", &found, &(Some(1), Some(1)));
+    assert!(rt; same(rt, &"batches, and turns", &found, &(Some(1), Some(1))));
 }
 
 #[test]
@@ -198,5 +196,5 @@ fn replies_while_pending<R: Abort + AllocGlobal>(rt: &R) -> (bool, bool) {
 
 #[test]
 fn a_repeat_of_a_committed_call_needs_no_commit(rt: HostRuntime) {
-    same(&rt, &"batch", &replies_while_pending(&rt), &(true, false));
+    assert!(rt; same(&rt, &"batch", &replies_while_pending(&rt), &(true, false)));
 }

@@ -1,18 +1,17 @@
 //! The same calls over a book in memory and over a ledger in tables.
 
-use crate::expect::same;
-use crate::ledger::calls::Answered::{
-    AlreadyVoid, BadGrant, Drawn, Full, Granted, NoRange, NoneFree, NotIssued, NotThePost,
-    NotYours, NumberReused, Overlap, Told, Voided,
-};
-use crate::ledger::calls::Asked::{Draw, DrawOfRb, Grant, GrantOfRb, Query, QueryOfUs, Void};
-use crate::ledger::calls::{
-    FIRST_DRAW, NINE_CALLS, OPENING, SIX_CALLS, Step, closed, first_wrong_step, gb, id, ledger, ra,
-    request, serial, settings,
-};
+use crate::ledger::calls::{closed, ledger, settings};
 use s10_book::{Book, BookFault, PlainBook};
 use s10_history::{Candidate, Entry, HolderKey, Issue, Range, SerialSpan, Settings, Usage};
 use s10_ledger::SqlBook;
+use s10_test_help::answered::Answered::{AlreadyVoid, Drawn, NoneFree, Told, Voided};
+use s10_test_help::asked::Asked::{Draw, Query, Void};
+use s10_test_help::expect::same;
+use s10_test_help::samples::{gb, id, ra, serial};
+use s10_test_help::steps::{
+    FIRST_DRAW, NINE_CALLS, OPENING, SIX_CALLS, Step, first_wrong_step, request,
+};
+use s10_test_help::worked::{FULL_LEDGER, INTERVAL, LAST_SERIALS, REFUSED_GRANTS, WHO_MAY};
 use s10_wire::{Outcome, Status};
 use sqlite::{Connection, MemStore};
 use std::process::Abort;
@@ -88,7 +87,7 @@ pub(crate) fn first_wrong_step_of<R: Abort + AllocGlobal>(
 
 /// Asserts that a ledger and a book in memory answer the steps and the reads as the rows say.
 /// Returns the connection of the ledger.
-fn both_after<R: Abort + AllocGlobal>(
+fn both_after<R: Abort + Eprint + AllocGlobal>(
     rt: &R,
     name: &str,
     limit: u32,
@@ -99,12 +98,12 @@ fn both_after<R: Abort + AllocGlobal>(
     let plain = found_in_memory(rt, settings, steps, reads);
     let mut tables = ledger(rt, settings);
     let found = found_in(&mut tables, steps, reads);
-    same(rt, &name, &(plain.0, plain.1, found), &(None, None, plain));
+    assert!(rt; same(rt, &name, &(plain.0, plain.1, found), &(None, None, plain)));
     closed(tables)
 }
 
 /// The same for a ledger with a limit of 100 calls, without reads.
-pub(crate) fn tables_after<R: Abort + AllocGlobal>(
+pub(crate) fn tables_after<R: Abort + Eprint + AllocGlobal>(
     rt: &R,
     name: &str,
     steps: &[Step],
@@ -113,7 +112,7 @@ pub(crate) fn tables_after<R: Abort + AllocGlobal>(
 }
 
 /// Asserts that both books answer the steps and the reads as the rows say.
-fn both_answer<R: Abort + AllocGlobal>(
+fn both_answer<R: Abort + Eprint + AllocGlobal>(
     rt: &R,
     name: &str,
     limit: u32,
@@ -122,18 +121,6 @@ fn both_answer<R: Abort + AllocGlobal>(
 ) {
     let _ = both_after(rt, name, limit, steps, reads);
 }
-
-const INTERVAL_ENDS: &'static [Step] = &[
-    OPENING,
-    FIRST_DRAW,
-    (7, 2, Draw, 20000, Drawn(20000, 1)),
-    (7, 3, Draw, 20000, Drawn(20000, 2)),
-    (7, 4, Draw, 20029, NoneFree),
-    (7, 4, Draw, 20030, NoneFree),
-    (7, 5, Draw, 20030, Drawn(20030, 0)),
-    (7, 1, Query(0), 20030, NumberReused),
-    (7, 1, Draw, 20400, Drawn(20000, 0)),
-];
 
 const VOID_IS_REPEATED: &'static [Step] = &[
     OPENING,
@@ -150,31 +137,13 @@ const VOID_IS_REPEATED: &'static [Step] = &[
     (7, 10, Query(1), 20030, Told(Status::Issued { day: 20030 })),
 ];
 
-const LAST_SERIALS: &'static [Step] = &[
-    (0, 1, Grant(7, 99_999_998, 99_999_999), 20000, Granted(1)),
-    (7, 1, Draw, 20000, Drawn(20000, 99_999_998)),
-    (7, 2, Draw, 20000, Drawn(20000, 99_999_999)),
-    (7, 3, Draw, 20000, NoneFree),
-    (7, 4, Void(99_999_998), 20000, Voided),
-    (7, 5, Draw, 20000, NoneFree),
-];
-
-const FULL_LEDGER: &'static [Step] = &[
-    OPENING,
-    FIRST_DRAW,
-    (7, 2, Draw, 20000, Drawn(20000, 1)),
-    (7, 3, Draw, 20000, Full),
-    (7, 1, Draw, 20000, Drawn(20000, 0)),
-    (7, 1, Query(0), 20000, NumberReused),
-];
-
 #[test]
 fn both_books_give_equal_answers_to_draws_and_voids(rt: HostRuntime) {
     both_answer(
         &rt,
         "the interval ends on its thirtieth day; a repeat is not executed and changes no day",
         100,
-        INTERVAL_ENDS,
+        INTERVAL,
         UNREAD,
     );
     both_answer(
@@ -200,44 +169,16 @@ fn both_books_give_equal_answers_to_draws_and_voids(rt: HostRuntime) {
     );
 }
 
-const GRANTS: &'static [Step] = &[
-    OPENING,
-    (0, 2, Grant(8, 2, 5), 20000, Overlap),
-    (0, 3, Grant(8, 3, 3), 20000, Granted(2)),
-    (0, 4, GrantOfRb(8, 0, 2), 20000, Granted(3)),
-    (0, 5, Grant(8, 9, 8), 20000, BadGrant),
-    (0, 6, Grant(0, 4, 5), 20000, BadGrant),
-    (7, 1, Grant(7, 4, 5), 20000, NotThePost),
-    (7, 2, Draw, 20000, Drawn(20000, 0)),
-    (7, 3, Draw, 20000, Drawn(20000, 1)),
-    (7, 4, Draw, 20000, Drawn(20000, 2)),
-    (7, 5, Draw, 20000, NoneFree),
-    (8, 1, Draw, 20000, Drawn(20000, 3)),
-];
-
 #[test]
 fn both_books_give_equal_answers_to_grants(rt: HostRuntime) {
     both_answer(
         &rt,
         "grants are refused in their order, and a draw stays in its own ranges",
         100,
-        GRANTS,
+        REFUSED_GRANTS,
         UNREAD,
     );
 }
-
-const REFUSALS: &'static [Step] = &[
-    OPENING,
-    (8, 1, Query(0), 20000, NotYours),
-    (8, 2, Void(0), 20000, NotYours),
-    (0, 2, QueryOfUs(47_312_482), 20000, Told(Status::Unknown)),
-    (0, 3, Query(0), 20000, Told(Status::Never)),
-    (0, 4, Draw, 20000, NoRange),
-    (0, 5, Void(0), 20000, NotYours),
-    (7, 1, Void(2), 20000, NotIssued),
-    (7, 2, Void(3), 20000, NotYours),
-    (7, 3, DrawOfRb, 20000, NoRange),
-];
 
 #[test]
 fn both_books_give_equal_refusals(rt: HostRuntime) {
@@ -245,7 +186,7 @@ fn both_books_give_equal_refusals(rt: HostRuntime) {
         &rt,
         "who may draw, void and query what",
         100,
-        REFUSALS,
+        WHO_MAY,
         UNREAD,
     );
 }

@@ -1,14 +1,15 @@
 //! A ledger with a closed range, created by statements, and what an opening finds if its table of
 //! closed ranges is damaged.
 
-use crate::expect::same;
 use crate::ledger::books::tables_after;
-use crate::ledger::calls::Answered::{Granted, Withdrawn};
-use crate::ledger::calls::Asked::{Grant, Withdraw};
-use crate::ledger::calls::{OPENING, Step, whole};
+use crate::ledger::calls::whole;
 use crate::ledger::rows::{COMPLETE, INCOMPLETE, Left, tables_left};
 use crate::ledger::tables::{HEAD, NINE_CALLS, TABLES, database, run_batches};
 use s10_ledger::OpenFault;
+use s10_test_help::answered::Answered::{Granted, Withdrawn};
+use s10_test_help::asked::Asked::{Grant, Withdraw};
+use s10_test_help::expect::same;
+use s10_test_help::steps::{OPENING, Step};
 use sqlite::{Connection, Error, MemStore};
 use std::alloc::Global;
 
@@ -40,7 +41,7 @@ fn withdrawn_ledger(alloc: Global) -> Result<Connection<MemStore>, Error> {
 fn a_ledger_with_a_closed_range_opens(rt: HostRuntime) {
     let found = tables_left(rt.alloc(), withdrawn_ledger(rt.alloc()), &[], &[]);
     let wanted = (Ok(whole(3, 20000)), true, COMPLETE, Ok(None));
-    same(&rt, &"withdrawn", &found, &Ok(Some(wanted)));
+    assert!(rt; same(&rt, &"withdrawn", &found, &Ok(Some(wanted))));
 }
 
 /// Returns the expected finding: a derived row is wrong, and these tables are left.
@@ -69,11 +70,11 @@ fn each_closed_range_is_compared(rt: HostRuntime) {
     for (damage, tables) in DAMAGES {
         let conn = withdrawn_ledger(rt.alloc());
         let found = tables_left(rt.alloc(), conn, &[damage], &[]);
-        same(&rt, damage, &found, &damaged(*tables));
+        assert!(rt; same(&rt, damage, &found, &damaged(*tables)));
     }
     let damage = "INSERT INTO closed (num, arrival) VALUES (1, 9)";
     let found = tables_left(rt.alloc(), database(rt.alloc(), NINE_CALLS), &[damage], &[]);
-    same(&rt, &damage, &found, &damaged(COMPLETE));
+    assert!(rt; same(&rt, &damage, &found, &damaged(COMPLETE)));
 }
 
 /// The second range of a ledger is closed before the first.
@@ -89,9 +90,9 @@ fn ranges_are_closed_in_any_order(rt: HostRuntime) {
     let conn = tables_after(&rt, "both ranges", BOTH_CLOSED);
     let found = tables_left(rt.alloc(), Ok(conn), &[], &[]);
     let wanted = (Ok(whole(4, 20000)), true, COMPLETE, Ok(None));
-    same(&rt, &"both ranges", &found, &Ok(Some(wanted)));
+    assert!(rt; same(&rt, &"both ranges", &found, &Ok(Some(wanted))));
     let conn = tables_after(&rt, "both ranges", BOTH_CLOSED);
     let damage = "UPDATE closed SET arrival = 7 - arrival";
     let found = tables_left(rt.alloc(), Ok(conn), &[damage], &[]);
-    same(&rt, &damage, &found, &damaged(COMPLETE));
+    assert!(rt; same(&rt, &damage, &found, &damaged(COMPLETE)));
 }

@@ -1,14 +1,15 @@
 //! Pending calls, and their commit.
 
-use crate::expect::same;
 use crate::ledger::books::first_wrong_step_in;
-use crate::ledger::calls::{
-    Answered, Asked, Step, answer, closed, first_wrong_step, ledger, request, settings,
-};
+use crate::ledger::calls::{closed, ledger, settings};
 use crate::ledger::tables::found;
 use s10_book::{Batched, Book, BookFault, GroupCommit};
 use s10_history::Settings;
 use s10_ledger::{NoObserver, Refused, SqlBook};
+use s10_test_help::answered::Answered;
+use s10_test_help::asked::Asked;
+use s10_test_help::expect::same;
+use s10_test_help::steps::{Step, answer, first_wrong_step, request};
 use sqlite::{Alter, Connection, MemStore};
 use std::alloc::Global;
 use std::ops::Range;
@@ -76,7 +77,7 @@ const COMMITTED_CALLS: &[(u32, u32)] = &[(0, 1), (1, 2), (63, 64), (64, 65)];
 fn committed_calls_are_found_after_reopening(rt: HostRuntime) {
     for (draws, calls) in COMMITTED_CALLS {
         let wanted = (true, *calls, Some(*calls));
-        same(&rt, draws, &committed(&rt, *draws), &wanted);
+        assert!(rt; same(&rt, draws, &committed(&rt, *draws), &wanted));
     }
 }
 
@@ -96,7 +97,7 @@ const FULL_BATCHES: &[(u32, u32)] = &[(0, 0), (1, 0), (63, 0), (64, 64), (127, 6
 fn pending_calls_are_committed_by_the_first_beyond_the_maximum_and_by_closing(rt: HostRuntime) {
     for (draws, calls) in FULL_BATCHES {
         let wanted = (true, *calls, Some(draws.saturating_add(1)));
-        same(&rt, draws, &closed_uncommitted(&rt, *draws), &wanted);
+        assert!(rt; same(&rt, draws, &closed_uncommitted(&rt, *draws), &wanted));
     }
 }
 
@@ -161,7 +162,7 @@ fn granted<R: Abort + AllocGlobal>(rt: &R) -> (SqlBook<MemStore>, bool) {
 fn a_kept_call_is_committed_with_the_pending_ones_before_it(rt: HostRuntime) {
     for (are_kept, committed) in ORDERS {
         let wanted = Some((*are_kept, *committed, Some(3)));
-        same(&rt, are_kept, &added_in_order(&rt, *are_kept), &wanted);
+        assert!(rt; same(&rt, are_kept, &added_in_order(&rt, *are_kept), &wanted));
     }
 }
 
@@ -180,7 +181,7 @@ fn repeated<R: Abort + AllocGlobal>(rt: &R) -> (bool, u32, u32, Option<u32>) {
 
 #[test]
 fn a_pending_call_is_found(rt: HostRuntime) {
-    same(&rt, &"repeated", &repeated(&rt), &(true, 4, 0, Some(4)));
+    assert!(rt; same(&rt, &"repeated", &repeated(&rt), &(true, 4, 0, Some(4))));
 }
 
 /// What is reported for a commit: which of four calls are committed before it, its result, which

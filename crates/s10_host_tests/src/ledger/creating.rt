@@ -1,11 +1,12 @@
 //! Creation of a ledger, in an empty database only.
 
-use crate::expect::same;
 use crate::ledger::books::{Read, first_wrong_step_of, found_in};
-use crate::ledger::calls::{NINE_CALLS, closed, ledger, settings};
+use crate::ledger::calls::{closed, ledger, settings};
 use crate::ledger::rows::{Shown, first_unshown};
 use s10_history::Settings;
 use s10_ledger::{NoObserver, OpenFault, Refused, SqlBook};
+use s10_test_help::expect::same;
+use s10_test_help::steps::NINE_CALLS;
 use sqlite::{Connection, MemStore};
 use std::process::Abort;
 
@@ -49,7 +50,7 @@ fn a_new_ledger_has_its_settings_and_no_call(rt: HostRuntime) {
     let mut conn = closed(book);
     let unshown = first_unshown(rt.alloc(), &mut conn, NEW);
     let found = (is_new, is_idle, unshown);
-    same(&rt, &"new, idle, its rows", &found, &(true, true, Ok(None)));
+    assert!(rt; same(&rt, &"new, idle, its rows", &found, &(true, true, Ok(None))));
 }
 
 /// Returns the fault of a creation that is refused, and the connection. Aborts if a ledger is
@@ -69,9 +70,9 @@ fn refusal<R: Abort + AllocGlobal>(
 }
 
 /// Returns the connection of a ledger of nine calls.
-pub(crate) fn nine_kept<R: Abort + AllocGlobal>(rt: &R) -> Connection<MemStore> {
+pub(crate) fn nine_kept<R: Abort + Eprint + AllocGlobal>(rt: &R) -> Connection<MemStore> {
     let (unlike, conn) = first_wrong_step_of(rt, 100, NINE_CALLS);
-    same(rt, &"nine calls", &unlike, &None);
+    assert!(rt; same(rt, &"nine calls", &unlike, &None));
     conn
 }
 
@@ -80,7 +81,7 @@ fn a_ledger_is_not_created_over_a_ledger(rt: HostRuntime) {
     let (fault, mut conn) = refusal(&rt, nine_kept(&rt), settings(&rt, 50));
     let unshown = first_unshown(rt.alloc(), &mut conn, NINE_KEPT);
     let wanted = (OpenFault::NotEmpty, Ok(None));
-    same(&rt, &"the fault, its rows", &(fault, unshown), &wanted);
+    assert!(rt; same(&rt, &"the fault, its rows", &(fault, unshown), &wanted));
 }
 
 /// Returns a database in which this statement was executed.
@@ -130,12 +131,12 @@ fn refused_beside<R: Abort + AllocGlobal>(rt: &R, text: &str) -> (OpenFault, usi
 #[test]
 fn a_ledger_is_not_created_beside_other_tables(rt: HostRuntime) {
     for (text, fault) in TABLES {
-        same(&rt, text, &refused_beside(&rt, text), &(*fault, 1, 0));
+        assert!(rt; same(&rt, text, &refused_beside(&rt, text), &(*fault, 1, 0)));
     }
 }
 
 #[test]
 fn a_ledger_is_not_created_beside_a_view(rt: HostRuntime) {
     let found = refused_beside(&rt, "CREATE VIEW one AS SELECT 1");
-    same(&rt, &"a view", &found, &(OpenFault::Store, 0, 1));
+    assert!(rt; same(&rt, &"a view", &found, &(OpenFault::Store, 0, 1)));
 }

@@ -1,14 +1,16 @@
 //! A range of all serials, and ten thousand draws from it.
 
-use crate::expect::same;
 use crate::ledger::books::first_wrong_step_of;
-use crate::ledger::calls::{
-    Answered, Asked, Step, answer, closed, first_wrong_step, id, ledger, request, said, settings,
-};
+use crate::ledger::calls::{closed, ledger, settings};
 use crate::ledger::rows::{Shown, first_unshown};
 use s10_book::{Book, BookFault};
 use s10_core::Id;
 use s10_history::Issue;
+use s10_test_help::answered::Answered;
+use s10_test_help::asked::Asked;
+use s10_test_help::expect::same;
+use s10_test_help::samples::id;
+use s10_test_help::steps::{Step, answer, first_wrong_step, request};
 
 const GRANT: &'static [Step] = &[(
     0,
@@ -34,14 +36,14 @@ const DRAWN: &'static [Shown] = &[
 fn a_grant_writes_no_row_of_a_serial(rt: HostRuntime) {
     let (unlike, mut conn) = first_wrong_step_of(&rt, 20_000, GRANT);
     let unshown = first_unshown(rt.alloc(), &mut conn, GRANTED);
-    same(&rt, &"the Grant", &(unlike, unshown), &(None, Ok(None)));
+    assert!(rt; same(&rt, &"the Grant", &(unlike, unshown), &(None, Ok(None))));
 }
 
 /// Makes ten thousand Draws, and returns the first serial that is not given in order, if any.
 fn first_not_drawn<B: Book>(book: &mut B) -> Option<u32> {
     for value in 0..10_000u32 {
         let drawn = answer(book, &request(7, value + 1, Asked::Draw), 20000);
-        if drawn != said(Answered::Drawn(20000, value)) {
+        if !Answered::Drawn(20000, value).is(&drawn) {
             return Some(value);
         }
     }
@@ -81,10 +83,12 @@ fn ten_thousand_draws_give_the_serials_in_order(rt: HostRuntime) {
     let mut conn = closed(book);
     let unshown = first_unshown(rt.alloc(), &mut conn, DRAWN);
     let is_named = Id::read(b"RA000099994GB") == Ok(id(9_999));
-    same(
-        &rt,
-        &"the calls, the last Draw's identifier, the rows",
-        &(drawn, is_named, unshown),
-        &((None, None, Ok(Some(LAST_ISSUE)), 10_001), true, Ok(None)),
+    assert!(rt;
+        same(
+            &rt,
+            &"the calls, the last Draw's identifier, the rows",
+            &(drawn, is_named, unshown),
+            &((None, None, Ok(Some(LAST_ISSUE)), 10_001), true, Ok(None)),
+        )
     );
 }

@@ -2,11 +2,14 @@
 
 ghost use Rattle.std.specs.Prelude.{◌≤◌};
 
-use crate::expect::same;
-use crate::ledger::calls::{Asked, answer, closed, gb, ledger, ra, request, serial, settings};
+use crate::ledger::calls::{closed, ledger, settings};
 use s10_book::{Book, PlainBook};
 use s10_history::{HolderKey, SerialSpan};
 use s10_ledger::{NoObserver, SqlBook};
+use s10_test_help::asked::Asked;
+use s10_test_help::expect::same;
+use s10_test_help::samples::{gb, ra, serial};
+use s10_test_help::steps::{answer, request};
 use s10_wire::Request;
 use sqlite::MemStore;
 use std::process::Abort;
@@ -158,7 +161,7 @@ fn both_books_give_equal_answers_for_many_ranges(rt: HostRuntime) {
     let calls = both_alike(&mut plain, &mut tables, CALLS);
     let found = both_alike(&mut plain, &mut tables, FOUND);
     let _ = closed(tables);
-    same(&rt, &"calls, books", &(calls, found), &(true, true));
+    assert!(rt; same(&rt, &"calls, books", &(calls, found), &(true, true)));
 }
 
 // All Grants, and Draws.
@@ -174,5 +177,5 @@ fn ranges_are_found_as_before_after_reopening(rt: HostRuntime) {
     let mut opened = opened_again(&rt, tables);
     let after = both_alike(&mut plain, &mut opened, AFTER);
     let _ = closed(opened);
-    same(&rt, &"before, after", &(before, after), &(true, true));
+    assert!(rt; same(&rt, &"before, after", &(before, after), &(true, true)));
 }

@@ -1,16 +1,17 @@
 //! Ledgers of an earlier build, which had no table of closed ranges, with and without other tables.
 
-use crate::expect::same;
 use crate::ledger::books::first_wrong_step_in;
-use crate::ledger::calls::Answered::{Drawn, NoRange, Withdrawn};
-use crate::ledger::calls::Asked::{Draw, Withdraw};
-use crate::ledger::calls::{NINE_CALLS, Step, closed, whole};
+use crate::ledger::calls::{closed, whole};
 use crate::ledger::creating::nine_kept;
 use crate::ledger::rows::{
     CLOSED, COMPLETE, INCOMPLETE, Left, NONE_CLOSED, Shown, left, tables_left,
 };
 use crate::ledger::tables::{OLD_LEDGER, database};
 use s10_ledger::{NoObserver, OpenFault, Refused, SqlBook};
+use s10_test_help::answered::Answered::{Drawn, NoRange, Withdrawn};
+use s10_test_help::asked::Asked::{Draw, Withdraw};
+use s10_test_help::expect::same;
+use s10_test_help::steps::{NINE_CALLS, Step};
 use sqlite::{Connection, Error, MemStore};
 use std::alloc::Global;
 use std::process::Abort;
@@ -27,7 +28,7 @@ fn left_of_old(alloc: Global, changes: &[&str], shown: &[Shown]) -> Result<Optio
 }
 
 /// Opens a ledger of nine calls of this build after these changes, and returns what is left of it.
-fn left_of_kept<R: Abort + AllocGlobal>(
+fn left_of_kept<R: Abort + Eprint + AllocGlobal>(
     rt: &R,
     changes: &[&str],
     shown: &[Shown],
@@ -40,8 +41,8 @@ fn a_ledger_without_closed_ranges_gets_their_table(rt: HostRuntime) {
     let of_this_build = left_of_kept(&rt, &[DROP], NONE_CLOSED);
     let of_an_earlier_one = left_of_old(rt.alloc(), &[], NONE_CLOSED);
     let wanted = Ok(Some((Ok(whole(9, 20030)), true, COMPLETE, Ok(None))));
-    same(&rt, &"of this build", &of_this_build, &wanted);
-    same(&rt, &"of an earlier one", &of_an_earlier_one, &wanted);
+    assert!(rt; same(&rt, &"of this build", &of_this_build, &wanted));
+    assert!(rt; same(&rt, &"of an earlier one", &of_an_earlier_one, &wanted));
 }
 
 /// A damage, and the fault of an opening after it.
@@ -64,13 +65,13 @@ fn a_damaged_ledger_gets_no_table_of_closed_ranges(rt: HostRuntime) {
     for (damage, fault) in DAMAGES {
         let found = left_of_kept(&rt, &[DROP, damage], &[]);
         let wanted = (Err(*fault), true, INCOMPLETE, Ok(None));
-        same(&rt, damage, &found, &Ok(Some(wanted)));
+        assert!(rt; same(&rt, damage, &found, &Ok(Some(wanted))));
     }
 }
 
 /// Opens the ledger in a connection and executes these steps. Returns the connection, or `None` if
 /// it does not open.
-fn served<R: Abort + AllocGlobal>(
+fn served<R: Abort + Eprint + AllocGlobal>(
     rt: &R,
     conn: Connection<MemStore>,
     steps: &[Step],
@@ -82,7 +83,7 @@ fn served<R: Abort + AllocGlobal>(
         Ok(mut book) => {
             let unlike = first_wrong_step_in(&mut book, steps);
             let conn = closed(book);
-            same(rt, &"served on", &unlike, &None);
+            assert!(rt; same(rt, &"served on", &unlike, &None));
             Some(conn)
         }
         Err(
@@ -106,7 +107,7 @@ const LATER_CALLS: &'static [Step] = &[
 const ONE_CLOSED: &'static [Shown] = &[(CLOSED, 2, &[1, 11])];
 
 /// Returns what is left of an old ledger that repeats the nine calls and executes later ones.
-fn left_of_served<R: Abort + AllocGlobal>(rt: &R) -> Option<Left> {
+fn left_of_served<R: Abort + Eprint + AllocGlobal>(rt: &R) -> Option<Left> {
     let conn = database(rt.alloc(), &OLD_LEDGER).ok()?;
     let conn = served(rt, conn, NINE_CALLS)?;
     let conn = served(rt, conn, LATER_CALLS)?;
@@ -116,14 +117,14 @@ fn left_of_served<R: Abort + AllocGlobal>(rt: &R) -> Option<Left> {
 #[test]
 fn a_ledger_of_an_earlier_build_is_completed_and_served(rt: HostRuntime) {
     let wanted = (Ok(whole(12, 20031)), true, COMPLETE, Ok(None));
-    same(&rt, &"served on", &left_of_served(&rt), &Some(wanted));
+    assert!(rt; same(&rt, &"served on", &left_of_served(&rt), &Some(wanted)));
 }
 
 /// The office's table has its row.
 const NOTE_ALONE: &'static [Shown] = &[("SELECT n FROM note", 1, &[5])];
 
 /// Returns what is left of a ledger of nine calls beside a table of the office, after later calls.
-fn left_beside_note<R: Abort + AllocGlobal>(rt: &R) -> Option<Left> {
+fn left_beside_note<R: Abort + Eprint + AllocGlobal>(rt: &R) -> Option<Left> {
     let mut conn = nine_kept(rt);
     conn.execute_batch(NOTE).ok()?;
     let conn = served(rt, conn, LATER_CALLS)?;
@@ -133,11 +134,13 @@ fn left_beside_note<R: Abort + AllocGlobal>(rt: &R) -> Option<Left> {
 #[test]
 fn a_ledger_is_served_beside_a_table_of_the_office(rt: HostRuntime) {
     let wanted = (Ok(whole(12, 20031)), true, (6, true), Ok(None));
-    same(
-        &rt,
-        &"beside a table",
-        &left_beside_note(&rt),
-        &Some(wanted),
+    assert!(rt;
+        same(
+            &rt,
+            &"beside a table",
+            &left_beside_note(&rt),
+            &Some(wanted),
+        )
     );
 }
 
@@ -163,6 +166,6 @@ fn an_old_ledger_beside_a_table_of_the_office_is_refused_and_unchanged(rt: HostR
     for (beside, shown, tables) in BESIDE {
         let found = left_of_old(rt.alloc(), &[beside], shown);
         let wanted = (Err(OpenFault::NotALedger), true, *tables, Ok(None));
-        same(&rt, beside, &found, &Ok(Some(wanted)));
+        assert!(rt; same(&rt, beside, &found, &Ok(Some(wanted))));
     }
 }

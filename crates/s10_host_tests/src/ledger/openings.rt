@@ -1,11 +1,11 @@
 //! Databases that open as ledgers, and those that do not.
 
-use crate::expect::same;
 use crate::ledger::tables::{
     CALLS_TABLE, CLOSED_TABLE, Change, Finding, HEAD, HEAD_TABLE, NINE_CALLS, NINE_FOUND,
     NO_LEDGER, RANGES_TABLE, SERIALS_TABLE, TABLES, are_found, changed, database, opening,
 };
 use s10_ledger::OpenFault;
+use s10_test_help::expect::same;
 use std::alloc::Global;
 use std::process::Abort;
 
@@ -143,7 +143,7 @@ const OTHERS: &[(&str, &[&str])] = &[
 fn only_the_exact_schema_is_a_ledger(rt: HostRuntime) {
     are_found(&rt, &TABLES, &[(HEAD, WHOLE)]);
     for (name, texts) in OTHERS {
-        same(&rt, name, &opening(rt.alloc(), texts, ""), &Some(NO_LEDGER));
+        assert!(rt; same(&rt, name, &opening(rt.alloc(), texts, ""), &Some(NO_LEDGER)));
     }
 }
 
@@ -204,11 +204,13 @@ const CASES: &[Change] = &[
 #[test]
 fn other_databases_are_no_ledgers(rt: HostRuntime) {
     are_found(&rt, &TABLES, CASES);
-    same(
-        &rt,
-        &"no table",
-        &opening(rt.alloc(), &[], ""),
-        &Some(NO_LEDGER),
+    assert!(rt;
+        same(
+            &rt,
+            &"no table",
+            &opening(rt.alloc(), &[], ""),
+            &Some(NO_LEDGER),
+        )
     );
 }
 
@@ -225,7 +227,7 @@ fn found_twice(alloc: Global, first: &str, then: &str) -> Option<(Finding, Findi
 #[test]
 fn nine_calls_are_found_by_each_opening(rt: HostRuntime) {
     let found = found_twice(rt.alloc(), "", "");
-    same(&rt, &"nine calls", &found, &Some((NINE_FOUND, NINE_FOUND)));
+    assert!(rt; same(&rt, &"nine calls", &found, &Some((NINE_FOUND, NINE_FOUND))));
 }
 
 /// A damage, the call in which it is found, and the statement that repairs it.
@@ -256,6 +258,6 @@ const MENDED: &[(&str, u32, &str)] = &[
 fn damage_is_reported_and_changes_no_row(rt: HostRuntime) {
     for (damage, call, mend) in MENDED {
         let wanted = Some((Err(OpenFault::Damaged(*call)), NINE_FOUND));
-        same(&rt, damage, &found_twice(rt.alloc(), damage, mend), &wanted);
+        assert!(rt; same(&rt, damage, &found_twice(rt.alloc(), damage, mend), &wanted));
     }
 }

@@ -1,34 +1,28 @@
 //! Calls and usage that are read from rows.
 
-use crate::expect::same;
 use s10_book::{BookFault, PlainBook};
 use s10_core::{Country, Serial, Service, pair_number};
 use s10_history::{Range, Settings, Usage};
 use s10_replay::{replay_rows, usage_among};
 use s10_rows::{CallRow, OpenFault, SerialRow};
+use s10_test_help::datagrams::{DRAW, DRAWN, GRANTED};
+use s10_test_help::expect::same;
 use std::alloc::Global;
 use std::process::Abort;
 
 const RA_GB: i64 = 1380009794;
 
-/// The reply to the post's Grant of RA GB 0 to 2 to customer 7.
-const GRANT: &[u8] = b"S1\x01\x81\0\0\0\0\0\0\0\x01\0\0\0\x07RAGB\0\0\0\0\0\0\0\x02\0\0\0\0\x01";
-
-/// The reply to customer 7's first Draw of RA GB, on day 20000.
-const REPLY: &[u8] =
-    b"S1\x01\x82\x00\x00\x00\x07\x00\x00\x00\x01RAGB\x00\x00\x00\x4e\x20RA000000005GB";
-
 #[test]
 fn pairs_are_four_letters_as_a_number(rt: HostRuntime) {
     let ra = Service::new(*b"RA").unwrap();
     let gb = Country::new(*b"GB").unwrap();
-    same(&rt, &"RA GB", &pair_number(ra, gb), &1380009794);
+    assert!(rt; same(&rt, &"RA GB", &pair_number(ra, gb), &1380009794));
 }
 
 // Replays the row of customer 7's first Draw, with this day and this reply, as the second call of a
 // ledger. Returns the result, or `None` if memory is refused.
 fn replayed(alloc: Global, day: i64, reply: &[u8]) -> Option<Result<(), OpenFault>> {
-    let Ok(grant) = Vec::from_slice(alloc, GRANT) else {
+    let Ok(grant) = Vec::from_slice(alloc, GRANTED) else {
         return None;
     };
     let first = CallRow::new(1, 0, 1, 20000, grant);
@@ -43,22 +37,20 @@ fn replayed(alloc: Global, day: i64, reply: &[u8]) -> Option<Result<(), OpenFaul
 const LONG: &[u8] =
     b"S1\x01\x82\x00\x00\x00\x07\x00\x00\x00\x01RAGB\x00\x00\x00\x4e\x20RA000000005GB\x00";
 
-const REQUEST: &[u8] = b"S1\x01\x02\x00\x00\x00\x07\x00\x00\x00\x01RAGB";
-
 /// The day and the reply of a row, and the result of its replay.
 const ROWS: &[(i64, &[u8], Result<(), OpenFault>)] = &[
-    (20000, REPLY, Ok(())),
+    (20000, DRAWN, Ok(())),
     (20000, LONG, Err(OpenFault::Damaged(2))),
-    (20000, REQUEST, Err(OpenFault::Damaged(2))),
-    (-1, REPLY, Err(OpenFault::Damaged(2))),
-    (4294967296, REPLY, Err(OpenFault::Damaged(2))),
+    (20000, DRAW, Err(OpenFault::Damaged(2))),
+    (-1, DRAWN, Err(OpenFault::Damaged(2))),
+    (4294967296, DRAWN, Err(OpenFault::Damaged(2))),
 ];
 
 #[test]
 fn rows_that_cannot_be_decoded_are_damage(rt: HostRuntime) {
     for (day, reply, told) in ROWS {
         let found = replayed(rt.alloc(), *day, reply);
-        same(&rt, &(*day, reply.len()), &found, &Some(*told));
+        assert!(rt; same(&rt, &(*day, reply.len()), &found, &Some(*told)));
     }
 }
 
@@ -161,6 +153,6 @@ fn usage_is_counted_from_the_rows(rt: HostRuntime) {
     };
     for (rows, day, usage) in USED {
         let found = usage_among(rows, &range, *day, 30);
-        same(&rt, &(rows.len(), *day), &found, usage);
+        assert!(rt; same(&rt, &(rows.len(), *day), &found, usage));
     }
 }

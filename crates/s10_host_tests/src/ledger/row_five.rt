@@ -1,63 +1,59 @@
 //! A script of datagrams that a server handles in one run over a ledger, which is then reopened.
 
-use crate::expect::same;
 use crate::ledger::calls::{closed, ledger, settings, whole};
-use crate::ledger::sheets::{GRANT, Step, Want, first_wrong_step};
+use crate::ledger::sheets::first_wrong_step;
 use crate::ledger::tables::found;
 use s10_ends::Server;
 use s10_ledger::OpenFault;
 use s10_rows::LedgerSummary;
+use s10_test_help::datagrams;
+use s10_test_help::deliveries::{DRAW, Delivered, GRANT, Want};
+use s10_test_help::expect::same;
 use s10_wire::WireFault;
 use std::alloc::{AllocError, Global};
 use std::process::Abort;
-
-const DRAW_1: &[u8] = b"S1\x01\x02\0\0\0\x07\0\0\0\x01RAGB";
-
-const DRAWN_1: &[u8] = b"S1\x01\x82\0\0\0\x07\0\0\0\x01RAGB\0\0\0\x4e\x20RA000000005GB";
 
 const DRAW_4: &[u8] = b"S1\x01\x02\0\0\0\x07\0\0\0\x04RAGB";
 
 const NONE_FREE: &[u8] = b"S1\x01\x82\0\0\0\x07\0\0\0\x04RAGB\x05";
 
-const FIRST: Step = (20_000, DRAW_1, Want::Reply(DRAWN_1));
-
 /// The first Draw again, 400 days later.
-const REPEATED: Step = (20_400, DRAW_1, Want::Reply(DRAWN_1));
+const REPEATED: Delivered = (20_400, datagrams::DRAW, Want::Reply(datagrams::DRAWN));
 
-const SECOND: Step = (
+const SECOND: Delivered = (
     20_000,
     b"S1\x01\x02\0\0\0\x07\0\0\0\x02RAGB",
     Want::Reply(b"S1\x01\x82\0\0\0\x07\0\0\0\x02RAGB\0\0\0\x4e\x20RA000000014GB"),
 );
 
-const THIRD: Step = (
+const THIRD: Delivered = (
     20_000,
     b"S1\x01\x02\0\0\0\x07\0\0\0\x03RAGB",
     Want::Reply(b"S1\x01\x82\0\0\0\x07\0\0\0\x03RAGB\0\0\0\x4e\x20RA000000028GB"),
 );
 
 /// Each serial was issued less than 30 days before, so none is free.
-const FOURTH: Step = (20_029, DRAW_4, Want::Reply(NONE_FREE));
+const FOURTH: Delivered = (20_029, DRAW_4, Want::Reply(NONE_FREE));
 
 /// The fourth Draw again, on the day on which serials are free.
-const FOURTH_AGAIN: Step = (20_030, DRAW_4, Want::Reply(NONE_FREE));
+const FOURTH_AGAIN: Delivered = (20_030, DRAW_4, Want::Reply(NONE_FREE));
 
-const FIFTH: Step = (
+const FIFTH: Delivered = (
     20_030,
     b"S1\x01\x02\0\0\0\x07\0\0\0\x05RAGB",
     Want::Reply(b"S1\x01\x82\0\0\0\x07\0\0\0\x05RAGB\0\0\0\x4e\x3eRA000000005GB"),
 );
 
 /// A Draw without its last byte.
-const SHORT: Step = (
+const SHORT: Delivered = (
     20_030,
     b"S1\x01\x02\0\0\0\x07\0\0\0\x06RAG",
     Want::Dropped(WireFault::Length),
 );
 
-const SCRIPT: &[Step] = &[
+const SCRIPT: &[Delivered] = &[
     GRANT,
-    FIRST,
+    DRAW,
     REPEATED,
     SECOND,
     THIRD,
@@ -74,7 +70,7 @@ type Served = (
 );
 
 /// Runs the script over a new ledger, closes it, and opens it again.
-fn served<R: Abort + AllocGlobal>(rt: &R) -> Served {
+fn served<R: Abort + Eprint + AllocGlobal>(rt: &R) -> Served {
     let alloc: Global = rt.alloc();
     let mut server = Server::new(ledger(rt, settings(rt, 100)));
     let wrong = first_wrong_step(alloc, &mut server, SCRIPT);
@@ -88,5 +84,5 @@ fn served<R: Abort + AllocGlobal>(rt: &R) -> Served {
 #[test]
 fn each_call_of_a_run_is_found_after_reopening(rt: HostRuntime) {
     let wanted = (Ok(None), Some(Ok(whole(6, 20_030))));
-    same(&rt, &"script", &served(&rt), &wanted);
+    assert!(rt; same(&rt, &"script", &served(&rt), &wanted));
 }

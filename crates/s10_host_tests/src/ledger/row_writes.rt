@@ -1,10 +1,10 @@
 //! The rows that calls write.
 
-use crate::expect::same;
 use s10_core::{Country, Id, Serial, Service};
 use s10_history::{Entry, Issuance, Range};
 use s10_replay::{grant_write, issue_writes, void_write};
 use s10_rows::{ClosedRow, PriorIssue, RangeRow, RangeWrite, SerialRow, SerialWrite};
+use s10_test_help::expect::same;
 use s10_wire::{Body, Outcome, Request};
 use std::process::Abort;
 
@@ -71,7 +71,7 @@ fn new_range_gives_its_first_serial_next(rt: HostRuntime) {
         outcome: Outcome::Granted { range: 1 },
     };
     let made = Some(RangeWrite::New(NEW_RANGE));
-    same(&rt, &"range 1", &grant_write(&grant), &made);
+    assert!(rt; same(&rt, &"range 1", &grant_write(&grant), &made));
 }
 
 #[test]
@@ -92,7 +92,7 @@ fn only_a_done_withdraw_writes_a_closed_row(rt: HostRuntime) {
             day: 20000,
             outcome: *outcome,
         };
-        same(&rt, outcome, &ClosedRow::made_by(3, &withdraw), row);
+        assert!(rt; same(&rt, outcome, &ClosedRow::made_by(3, &withdraw), row));
     }
 }
 
@@ -131,7 +131,7 @@ fn mark_advances_by_one_and_wraps_after_the_last(rt: HostRuntime) {
             (marked, SerialWrite::New(row)),
             (marked, SerialWrite::Again(row)),
         );
-        same(&rt, arrival, &found, &wanted);
+        assert!(rt; same(&rt, arrival, &found, &wanted));
     }
 }
 
@@ -147,5 +147,5 @@ fn void_keeps_the_row_and_marks_it_as_voided(rt: HostRuntime) {
         number: 2,
         voided: 1,
     });
-    same(&rt, &"voided", &void_write(&issuance), &write);
+    assert!(rt; same(&rt, &"voided", &void_write(&issuance), &write));
 }

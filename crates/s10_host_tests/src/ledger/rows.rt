@@ -1,13 +1,13 @@
 //! The rows that calls leave in the tables.
 
-use crate::expect::same;
 use crate::ledger::books::tables_after;
-use crate::ledger::calls::Answered::{Closed, Granted, NoSuchRange, NotThePost, Withdrawn};
-use crate::ledger::calls::Asked::{Grant, Withdraw};
-use crate::ledger::calls::{FIRST_DRAW, NINE_CALLS, OPENING, SIX_CALLS, Step};
 use crate::ledger::tables::{found, numbers, run_batches};
 use s10_ledger::OpenFault;
 use s10_rows::LedgerSummary;
+use s10_test_help::answered::Answered::{Closed, Granted, NoSuchRange, NotThePost, Withdrawn};
+use s10_test_help::asked::Asked::{Grant, Withdraw};
+use s10_test_help::expect::same;
+use s10_test_help::steps::{FIRST_DRAW, NINE_CALLS, OPENING, SIX_CALLS, Step};
 use sqlite::{Connection, Error, MemStore};
 use std::alloc::Global;
 use std::process::Abort;
@@ -76,10 +76,10 @@ pub(crate) fn tables_left(
 }
 
 /// Asserts that both books answer the steps, and that the tables then have these rows.
-fn leave<R: Abort + AllocGlobal>(rt: &R, name: &str, steps: &[Step], shown: &[Shown]) {
+fn leave<R: Abort + Eprint + AllocGlobal>(rt: &R, name: &str, steps: &[Step], shown: &[Shown]) {
     let mut conn = tables_after(rt, name, steps);
     let unshown = first_unshown(rt.alloc(), &mut conn, shown);
-    same(rt, &name, &unshown, &Ok(None));
+    assert!(rt; same(rt, &name, &unshown, &Ok(None)));
 }
 
 const RA_GB: i64 = 1380009794;

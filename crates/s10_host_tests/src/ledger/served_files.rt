@@ -1,13 +1,13 @@
 //! Servers over ledgers in files that stop at one call, as on a full disk, closed with pending
 //! calls.
 
-use crate::expect::same;
 use crate::ledger::calls::{closed, settings};
 use s10_book::{Batched, Book};
 use s10_ends::{Server, serve_batch};
 use s10_history::Settings;
 use s10_ledger::{ClosedBook, NoObserver, Refused, SqlBook};
 use s10_link::{Link, Packet, Peer, Receipt, ScriptLink};
+use s10_test_help::expect::same;
 use sqlite::{Alter, Connection, FileStore, Files, Options};
 use sqlite_disk::{Crash, Disk, Fuse, Memory};
 use std::alloc::Global;
@@ -200,5 +200,5 @@ fn uncommitted_closings(alloc: Global, settings: Settings) -> Option<u32> {
 #[test]
 fn each_reply_stands_though_the_disk_is_full(rt: HostRuntime) {
     let count = uncommitted_closings(rt.alloc(), settings(&rt, 100));
-    same(&rt, &count, &(0 < count.unwrap_or(0)), &true);
+    assert!(rt; same(&rt, &count, &(0 < count.unwrap_or(0)), &true));
 }

@@ -1,51 +1,35 @@
 //! Sheets of identifiers, datagram by datagram, over a book in memory and over a ledger in tables.
 
-use crate::expect::same;
 use crate::ledger::calls::{closed, ledger, settings};
 use s10_book::{Book, PlainBook};
 use s10_ends::{Answer, Delivery, Server};
 use s10_link::Packet;
 use s10_reports::write_ranges;
+use s10_test_help::deliveries::{Delivered, GRANT, Want};
+use s10_test_help::expect::same;
 use s10_wire::WireFault;
 use std::alloc::{AllocError, Global};
 use std::process::Abort;
 
-/// The expected answer to a delivery.
-#[derive(Clone, Copy)]
-pub enum Want {
-    Reply(&'static [u8]),
-    Dropped(WireFault),
-}
-
-/// The day, the datagram, and its expected answer.
-pub(crate) type Step = (u32, &'static [u8], Want);
-
-/// The post grants RA GB 0 to 2 to customer 7.
-pub(crate) const GRANT: Step = (
-    20_000,
-    b"S1\x01\x01\0\0\0\0\0\0\0\x01\0\0\0\x07RAGB\0\0\0\0\0\0\0\x02",
-    Want::Reply(b"S1\x01\x81\0\0\0\0\0\0\0\x01\0\0\0\x07RAGB\0\0\0\0\0\0\0\x02\0\0\0\0\x01"),
-);
-
-const SHEET: Step = (
+const SHEET: Delivered = (
     20_000,
     b"S1\x02\x05\0\0\0\x07\0\0\0\x01RAGB\x02",
     Want::Reply(b"S1\x02\x85\0\0\0\x07\0\0\0\x01RAGB\x02\0\0\0\x4e\x20RA000000005GBRA000000014GB"),
 );
 
-const NONE_FREE: Step = (
+const NONE_FREE: Delivered = (
     20_000,
     b"S1\x02\x05\0\0\0\x07\0\0\0\x02RAGB\x02",
     Want::Reply(b"S1\x02\x85\0\0\0\x07\0\0\0\x02RAGB\x02\x05"),
 );
 
-const THIRD_SERIAL: Step = (
+const THIRD_SERIAL: Delivered = (
     20_000,
     b"S1\x01\x02\0\0\0\x07\0\0\0\x03RAGB",
     Want::Reply(b"S1\x01\x82\0\0\0\x07\0\0\0\x03RAGB\0\0\0\x4e\x20RA000000028GB"),
 );
 
-const WRAPPING: Step = (
+const WRAPPING: Delivered = (
     20_030,
     b"S1\x02\x05\0\0\0\x07\0\0\0\x04RAGB\x03",
     Want::Reply(
@@ -54,10 +38,10 @@ const WRAPPING: Step = (
 );
 
 /// Sheets of one range of three serials on day 20000.
-const ON_FIRST_DAY: &[Step] = &[GRANT, SHEET, SHEET, NONE_FREE, THIRD_SERIAL];
+const ON_FIRST_DAY: &[Delivered] = &[GRANT, SHEET, SHEET, NONE_FREE, THIRD_SERIAL];
 
 /// The same, and sheets on day 20030, the first of which wraps around.
-const ONE_RANGE: &[Step] = &[
+const ONE_RANGE: &[Delivered] = &[
     GRANT,
     SHEET,
     SHEET,
@@ -76,13 +60,13 @@ const ONE_RANGE: &[Step] = &[
     ),
 ];
 
-const SECOND_GRANT: Step = (
+const SECOND_GRANT: Delivered = (
     20_000,
     b"S1\x01\x01\0\0\0\0\0\0\0\x02\0\0\0\x07RAGB\0\0\0\x04\0\0\0\x05",
     Want::Reply(b"S1\x01\x81\0\0\0\0\0\0\0\x02\0\0\0\x07RAGB\0\0\0\x04\0\0\0\x05\0\0\0\0\x02"),
 );
 
-const OF_BOTH: Step = (
+const OF_BOTH: Delivered = (
     20_000,
     b"S1\x02\x05\0\0\0\x07\0\0\0\x01RAGB\x05",
     Want::Reply(
@@ -91,13 +75,13 @@ const OF_BOTH: Step = (
     ),
 );
 
-const TWO_GRANTS: &[Step] = &[GRANT, SECOND_GRANT];
+const TWO_GRANTS: &[Delivered] = &[GRANT, SECOND_GRANT];
 
 /// A sheet continues in the customer's second range.
-const TWO_RANGES: &[Step] = &[GRANT, SECOND_GRANT, OF_BOTH];
+const TWO_RANGES: &[Delivered] = &[GRANT, SECOND_GRANT, OF_BOTH];
 
 /// The longest sheet, of sixteen identifiers.
-const SIXTEEN: &[Step] = &[
+const SIXTEEN: &[Delivered] = &[
     (
         20_000,
         b"S1\x01\x01\0\0\0\0\0\0\0\x01\0\0\0\x07RAGB\0\0\0\0\0\0\0\x0f",
@@ -117,7 +101,7 @@ const SIXTEEN: &[Step] = &[
 
 /// Datagrams that ask for no sheet: without a label, with seventeen, and with a kind of the other
 /// version.
-const REFUSED: &[Step] = &[
+const REFUSED: &[Delivered] = &[
     (
         20_000,
         b"S1\x02\x05\0\0\0\x07\0\0\0\x01RAGB\0",
@@ -149,7 +133,7 @@ fn is_as_wanted(answer: &Answer, want: Want) -> bool {
 }
 
 /// Returns the deliveries of these steps.
-fn deliveries_of(alloc: Global, steps: &[Step]) -> Result<Vec<Delivery>, AllocError> {
+fn deliveries_of(alloc: Global, steps: &[Delivered]) -> Result<Vec<Delivery>, AllocError> {
     let mut deliveries = Vec::new(alloc);
     for (day, datagram, _) in steps {
         let packet = Packet::new(datagram);
@@ -163,7 +147,7 @@ fn deliveries_of(alloc: Global, steps: &[Step]) -> Result<Vec<Delivery>, AllocEr
 pub(crate) fn first_wrong_step<B: Book>(
     alloc: Global,
     server: &mut Server<B>,
-    steps: &[Step],
+    steps: &[Delivered],
 ) -> Result<Option<usize>, AllocError> {
     let deliveries = deliveries_of(alloc, steps)?;
     let answers = server.run(alloc, &deliveries)?;
@@ -194,7 +178,12 @@ fn is_left<B: Book>(alloc: Global, book: &mut B, left: Option<Left>) -> bool {
 type After = (Result<Option<usize>, AllocError>, bool);
 
 /// Runs a server over a book, and returns the book and that.
-fn book_after<B: Book>(alloc: Global, book: B, steps: &[Step], left: Option<Left>) -> (B, After) {
+fn book_after<B: Book>(
+    alloc: Global,
+    book: B,
+    steps: &[Delivered],
+    left: Option<Left>,
+) -> (B, After) {
     let mut server = Server::new(book);
     let unlike = first_wrong_step(alloc, &mut server, steps);
     let mut book = server.into_book();
@@ -204,10 +193,10 @@ fn book_after<B: Book>(alloc: Global, book: B, steps: &[Step], left: Option<Left
 
 /// Asserts that a book in memory and a ledger answer the steps as expected, and are left as
 /// expected.
-pub(crate) fn are_answered<R: Abort + AllocGlobal>(
+pub(crate) fn are_answered<R: Abort + Eprint + AllocGlobal>(
     rt: &R,
     name: &str,
-    steps: &[Step],
+    steps: &[Delivered],
     left: Option<Left>,
 ) {
     let settings = settings(rt, 100);
@@ -216,11 +205,13 @@ pub(crate) fn are_answered<R: Abort + AllocGlobal>(
     let (tables, in_tables) = book_after(rt.alloc(), ledger(rt, settings), steps, left);
     let _ = closed(tables);
     let wanted = (Ok(None), true);
-    same(
-        rt,
-        &(name, "in memory, in tables"),
-        &(in_memory, in_tables),
-        &(wanted, wanted),
+    assert!(rt;
+        same(
+            rt,
+            &(name, "in memory, in tables"),
+            &(in_memory, in_tables),
+            &(wanted, wanted),
+        )
     );
 }
 
@@ -294,7 +285,7 @@ fn text_from<B: Book>(
 fn text_after<B: Book>(
     alloc: Global,
     book: B,
-    steps: &[Step],
+    steps: &[Delivered],
     day: u32,
     datagrams: &[&[u8]],
     from: usize,
@@ -308,7 +299,7 @@ fn text_after<B: Book>(
 /// The same over a ledger.
 fn told<R: Abort + AllocGlobal>(
     rt: &R,
-    steps: &[Step],
+    steps: &[Delivered],
     day: u32,
     datagrams: &[&[u8]],
     from: usize,
@@ -322,8 +313,8 @@ fn told<R: Abort + AllocGlobal>(
 /// Returns whether a sheet after these steps has the identifiers that n Draws instead of it have.
 fn is_as_draws<R: Abort + AllocGlobal>(
     rt: &R,
-    steps: &[Step],
-    sheet: Step,
+    steps: &[Delivered],
+    sheet: Delivered,
     draws: &[&[u8]],
 ) -> bool {
     let (day, datagram, _) = sheet;
@@ -340,10 +331,12 @@ fn is_as_draws<R: Abort + AllocGlobal>(
 fn a_sheet_of_n_has_the_identifiers_of_n_draws(rt: HostRuntime) {
     let is_wrapping = is_as_draws(&rt, ON_FIRST_DAY, WRAPPING, THREE_DRAWS);
     let is_of_both = is_as_draws(&rt, TWO_GRANTS, OF_BOTH, FIVE_DRAWS);
-    same(
-        &rt,
-        &"wrapping, two ranges",
-        &(is_wrapping, is_of_both),
-        &(true, true),
+    assert!(rt;
+        same(
+            &rt,
+            &"wrapping, two ranges",
+            &(is_wrapping, is_of_both),
+            &(true, true),
+        )
     );
 }

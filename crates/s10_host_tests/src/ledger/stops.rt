@@ -1,7 +1,6 @@
 //! Ledgers over files that stop at one of their calls: a ledger of an earlier build, which had no
 //! table of closed ranges, is opened, and a new ledger commits its calls.
 
-use crate::expect::same;
 use crate::ledger::calls::{closed, settings};
 use crate::ledger::committing::{
     COMMITTED, CommitReport, UNCOMMITTED, commits_three_in, keeps_five_in,
@@ -10,6 +9,7 @@ use crate::ledger::tables::{OLD_LEDGER, run_batches};
 use s10_book::Book;
 use s10_history::Settings;
 use s10_ledger::{NoObserver, OpenFault, Refused, SqlBook};
+use s10_test_help::expect::same;
 use sqlite::{Alter, Connection, FileStore, Files, Options};
 use sqlite_disk::{Crash, Disk, Fuse, Memory};
 use std::alloc::Global;
@@ -273,7 +273,7 @@ fn a_ledger_whose_completion_stopped_is_whole(rt: HostRuntime) {
         0 < counts[2].unwrap_or(0),
         counts[3].is_some(),
     ];
-    same(&rt, &counts, &are_met, &[true; 4]);
+    assert!(rt; same(&rt, &counts, &are_met, &[true; 4]));
 }
 
 /// Does this over empty files that stop. Returns what is reported, and how the ledger then opens in
@@ -346,12 +346,12 @@ fn are_met(counts: &[Option<u32>; 3]) -> [bool; 3] {
 fn a_failed_commit_commits_all_pending_calls_or_none(rt: HostRuntime) {
     let act = Act::Commit(rt.alloc(), settings(&rt, 100));
     let counts = failures_of_each_file(rt.alloc(), &act);
-    same(&rt, &counts, &are_met(&counts), &[true; 3]);
+    assert!(rt; same(&rt, &counts, &are_met(&counts), &[true; 3]));
 }
 
 #[test]
 fn a_kept_call_is_found_after_a_stop(rt: HostRuntime) {
     let act = Act::Keep(rt.alloc(), settings(&rt, 100));
     let counts = failures_of_each_file(rt.alloc(), &act);
-    same(&rt, &counts, &are_met(&counts), &[true; 3]);
+    assert!(rt; same(&rt, &counts, &are_met(&counts), &[true; 3]));
 }

@@ -1,10 +1,10 @@
 //! Databases created by statements, and what an opening finds in them.
 
-use crate::expect::same;
 use crate::ledger::calls::closed;
 use s10_book::Book;
 use s10_ledger::{NoObserver, OpenFault, Refused, SqlBook};
 use s10_rows::LedgerSummary;
+use s10_test_help::expect::same;
 use sqlite::{Alter, Connection, Error, MemStore};
 use std::alloc::Global;
 use std::process::Abort;
@@ -195,13 +195,19 @@ pub(crate) fn opening(alloc: Global, texts: &[&str], change: &str) -> Option<Fin
 }
 
 /// Asserts for each change what is found after it in a database created by these statements.
-pub(crate) fn are_found<R: Abort + AllocGlobal>(rt: &R, texts: &[&str], changes: &[Change]) {
+pub(crate) fn are_found<R: Abort + Eprint + AllocGlobal>(
+    rt: &R,
+    texts: &[&str],
+    changes: &[Change],
+) {
     for (change, finding) in changes {
-        same(
-            rt,
-            change,
-            &opening(rt.alloc(), texts, change),
-            &Some(*finding),
+        assert!(rt;
+            same(
+                rt,
+                change,
+                &opening(rt.alloc(), texts, change),
+                &Some(*finding),
+            )
         );
     }
 }

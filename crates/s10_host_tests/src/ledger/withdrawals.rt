@@ -1,14 +1,9 @@
 //! Withdrawals, datagram by datagram, over a book in memory and over a ledger in tables.
 
-use crate::ledger::sheets::{GRANT, Step, Want, are_answered};
+use crate::ledger::sheets::are_answered;
+use s10_test_help::deliveries::{DRAW, Delivered, GRANT, Want};
 
-const DRAW: Step = (
-    20_000,
-    b"S1\x01\x02\0\0\0\x07\0\0\0\x01RAGB",
-    Want::Reply(b"S1\x01\x82\0\0\0\x07\0\0\0\x01RAGB\0\0\0\x4e\x20RA000000005GB"),
-);
-
-const WITHDRAW: Step = (
+const WITHDRAW: Delivered = (
     20_000,
     b"S1\x02\x06\0\0\0\0\0\0\0\x02\0\0\0\x01",
     Want::Reply(b"S1\x02\x86\0\0\0\0\0\0\0\x02\0\0\0\x01\0"),
@@ -16,7 +11,7 @@ const WITHDRAW: Step = (
 
 /// Range 1 is withdrawn. Then come other withdrawals, draws, a Void and a Query of its identifier,
 /// and Grants.
-const WITHDRAWN: &[Step] = &[
+const WITHDRAWN: &[Delivered] = &[
     GRANT,
     DRAW,
     WITHDRAW,
@@ -79,7 +74,7 @@ const WITHDRAWN_RANGES: &[u8] = b"range customer service country first last used
 
 /// The number of the withdrawal is used for another range and for a Grant, then again for the
 /// withdrawal.
-const REUSED: &[Step] = &[
+const REUSED: &[Delivered] = &[
     GRANT,
     DRAW,
     WITHDRAW,
@@ -100,7 +95,7 @@ const REUSED_RANGES: &[u8] = b"range customer service country first last used vo
 1 7 RA GB 00000000 00000002 1 0 2 closed\n";
 
 /// The number of the Grant is used for a withdrawal.
-const NOT_WITHDRAWN: &[Step] = &[
+const NOT_WITHDRAWN: &[Delivered] = &[
     GRANT,
     (
         20_000,

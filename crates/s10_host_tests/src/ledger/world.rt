@@ -3,27 +3,20 @@
 ghost use Rattle.std.specs.Prelude.{◌≡◌, IfOk, All, length};
 ghost use Rattle.s10_ends.specs.Client.{IsNew};
 
-use crate::expect::same;
 use crate::ledger::calls::{closed, ledger, settings};
 use s10_book::Book;
 use s10_ends::{Client, Server};
 use s10_history::Entry;
+use s10_link::Packet;
+use s10_test_help::datagrams::{DRAWN_1, DRAWN_10, GRANTED, STORY_REPLIES};
+use s10_test_help::expect::same;
+use s10_test_help::story::{Happens, STORY};
 use s10_wire::{Frame, Reply, decode_reply};
 use s10_world::{Event, World};
 use std::alloc::{AllocError, Global};
 use std::process::Abort;
 
 const EVENTS: usize = 18;
-
-// The replies of the story.
-const GRANTED: &[u8] = b"S1\x01\x81\0\0\0\0\0\0\0\x01\0\0\0\x07RAGB\0\0\0\0\0\0\0\x02\0\0\0\0\x01";
-
-const DRAWN_1: &[u8] = b"S1\x01\x82\0\0\0\x07\0\0\0\x01RAGB\0\0\0\x4e\x20RA000000014GB";
-
-const DRAWN_10: &[u8] = b"S1\x01\x82\0\0\0\x07\0\0\0\x0aRAGB\0\0\0\x4e\x20RA000000005GB";
-
-// The server's replies, in order.
-const REPLIED: &[&[u8]] = &[GRANTED, DRAWN_10, DRAWN_1, DRAWN_10, DRAWN_1];
 
 // Returns the replies to the Grant and to the Draws of both clients. Each reply repeats its
 // request.
@@ -38,62 +31,28 @@ fn replies(rt: &impl Abort) -> [Reply; 3] {
     }
 }
 
-/// An event of the world.
-#[derive(Clone, Copy)]
-enum Happens {
-    /// The client, and the index of the reply to its request.
-    Submit(u32, usize),
-    /// The client.
-    Resend(u32),
-    /// The client.
-    GiveUp(u32),
-    /// The index of a frame sent by a client, and the day of its delivery.
-    ToServer(usize, u32),
-    /// The client, and the index of a frame sent by the server.
-    ToClient(u32, usize),
-}
-
-/// The post grants three serials. Two clients of customer 7 draw: the second's request arrives
-/// first, both arrive twice, and the second client gives up before its reply arrives.
-const STORY: &[Happens] = &[
-    Happens::Submit(0, 0),
-    Happens::Resend(0),
-    Happens::ToServer(0, 20_000),
-    Happens::ToClient(0, 0),
-    Happens::Submit(1, 1),
-    Happens::Resend(1),
-    Happens::Submit(2, 2),
-    Happens::Resend(2),
-    Happens::ToServer(2, 20_000),
-    Happens::ToServer(1, 20_000),
-    Happens::ToServer(2, 20_001),
-    Happens::ToServer(1, 20_001),
-    Happens::ToClient(1, 1),
-    Happens::GiveUp(2),
-    Happens::ToClient(2, 1),
-    Happens::ToClient(1, 2),
-    Happens::ToClient(1, 4),
-    Happens::ToServer(9, 20_000),
-];
-
-fn event(happens: Happens, replies: &[Reply; 3]) -> Event {
+fn event(happens: Happens) -> Event {
     match happens {
-        Happens::Submit(client, place) => Event::Submit {
+        Happens::Submit(client, asked) => Event::Submit {
             client,
-            body: replies[place.min(2)].request().body,
+            body: asked.body(),
         },
         Happens::Resend(client) => Event::Resend { client },
         Happens::GiveUp(client) => Event::GiveUp { client },
         Happens::ToServer(index, day) => Event::ToServer { index, day },
+        Happens::Strange(bytes, day) => Event::Strange {
+            packet: Packet::new(bytes),
+            day,
+        },
         Happens::ToClient(client, index) => Event::ToClient { client, index },
     }
 }
 
 /// Returns the events of the story.
-fn story(replies: &[Reply; 3]) -> [Event; EVENTS] {
+fn story() -> [Event; EVENTS] {
     let mut events = [Event::Resend { client: 0 }; EVENTS];
     for at in 0..STORY.len().min(EVENTS) {
-        events[at] = event(STORY[at], replies);
+        events[at] = event(STORY[at]);
     }
     events
 }
@@ -118,12 +77,12 @@ fn three_clients(alloc: Global) -> Result<Vec<Client>, AllocError>
 
 // Returns whether these are the server's replies.
 fn server_replied(frames: &[Frame]) -> bool {
-    for (frame, bytes) in frames.iter().zip(REPLIED) {
+    for (frame, bytes) in frames.iter().zip(STORY_REPLIES) {
         if frame.bytes() != *bytes {
             return false;
         }
     }
-    frames.len() == REPLIED.len()
+    frames.len() == STORY_REPLIES.len()
 }
 
 // Returns whether each client's request was submitted, whether the post and the first client
@@ -169,7 +128,7 @@ fn run_story<B: Book>(alloc: Global, book: B, replies: &[Reply; 3]) -> (B, Optio
         return (book, None);
     };
     let mut world = World::new(alloc, Server::new(book), clients);
-    let seen = match world.run(&story(replies)) {
+    let seen = match world.run(&story()) {
         Ok(()) => Some(seen(&world, replies)),
         Err(_) => None,
     };
@@ -194,10 +153,12 @@ fn a_ledger_in_tables_executes_each_call_of_a_world_once(rt: HostRuntime) {
     let ledger = ledger(&rt, settings(&rt, 100));
     let (ledger, found) = run_and_kept(rt.alloc(), ledger, &replies);
     let _ = closed(ledger);
-    same(
-        &rt,
-        &"submitted, accepted, replied, and kept",
-        &found,
-        &(Some([true; 3]), true),
+    assert!(rt;
+        same(
+            &rt,
+            &"submitted, accepted, replied, and kept",
+            &found,
+            &(Some([true; 3]), true),
+        )
     );
 }
