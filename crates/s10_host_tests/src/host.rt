@@ -5,6 +5,7 @@ mod buffers;
 mod command_lines;
 mod job_words;
 mod jobs;
+mod kept_files;
 mod ledgers;
 mod loopback;
 mod questions;
