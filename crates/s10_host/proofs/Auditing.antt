@@ -1,12 +1,35 @@
--- What an audit finds.
-use Rattle.std.proofs.Common.{◌≡◌, ◌∙◌, ap, ℕ, List, [], ◌++◌, append-nil, Ok, sym, subst, length}
+-- What an audit finds, and what it leaves of the files.
+use Rattle.std.proofs.Common.{◌≡◌, ◌⊎◌, ◌∙◌, ap, ℕ, List, [], ◌++◌, append-nil, inl, inr, Result, Ok}
+use Rattle.std.proofs.Common.{sym, subst, length, IsTrue}
+use Rattle.std.proofs.Math.Logic.{∥∥₁_map}
+use Rattle.sqlite_disk.specs.declared.Disk as disk
+use Rattle.sqlite_disk.specs.declared.Files.{Files}
+use Rattle.sqlite_wal.specs.Files.{outcomes}
+use Rattle.sqlite_wal.specs.Reads.{AreClean}
+use Rattle.sqlite_wal.specs.Recovery.{Image}
+use Rattle.sqlite_wal.proofs.LogLemmas.{SeenMayStay}
+use Rattle.sqlite_trees.specs.Tree.{Trees}
+use Rattle.sqlite_trees.specs.View.{doubt}
+use Rattle.sqlite_trees.proofs.Doubt.{no_doubt}
+use Rattle.sqlite_pool.proofs.StateLemmas.{clean_is, may_leave_is}
+use Rattle.sqlite_store.specs.declared.store.FileStore.{FileStore}
+use Rattle.sqlite_store.specs.FileStore.{view, recovers, files as store_files}
+use Rattle.sqlite_store.specs.Laws.{settled_at}
+use Rattle.sqlite.specs.Effect.{Database}
+use Rattle.sqlite.specs.Files.{file_state, over_files, image_of, HoldsDatabase, IsOpened}
+use Rattle.sqlite.specs.Held.{AreDatabases}
+use Rattle.sqlite.proofs.Theorems.{opens_again}
 use Rattle.sqlite_trees.specs.declared.store.Store.{Ghosts}
 use Rattle.sqlite.specs.Held.{Held, state}
 use Rattle.s10_history.specs.declared.entry.Entry.{Entry}
 use Rattle.s10_schema.specs.Schema.{IsClosedSchema}
+use Rattle.s10_rows.specs.declared.open_fault.OpenFault.{OpenFault}
 use Rattle.s10_ledger.specs.Ledger.{Ledger, IsAnyLedger, IsHonest, history_in, history_of}
+use Rattle.s10_ledger.specs.Ledger.{IsCompletedIn, MayComplete}
 use Rattle.s10_statements.specs.ConnectionState.{IsClean, IsOpen, WasSound}
-use Rattle.s10_host.specs.Audited.{HasFound}
+use Rattle.s10_host.specs.Audited.{HasFound, KeepsAudited}
+use Rattle.s10_host.specs.Files.{Hold, IsStoreOf}
+use Rattle.s10_host.proofs.Opening.{left_clean}
 
 -- A ledger that was opened and closed is found, with its calls.
 pub found_calls : {S : Type 0} (g : Ghosts S) (before closed : Held S) (book : Ledger S) (count : ℕ)
@@ -19,9 +42,9 @@ pub found_calls : {S : Type 0} (g : Ghosts S) (before closed : Held S) (book : L
     ≡ history_in (state g before).now) → WasSound g before book.conn → book.pending ≡ []
     → (IsHonest g book → count ≡ length (history_of g book))
     → (IsHonest g book → (state g book.conn).committed ≡ (state g book.conn).now)
-    → HasFound g before closed (Ok count)
+    → MayComplete g before book.conn → HasFound g before closed (Ok count)
 found_calls g before closed book count same opened honest ledger shows history sound none counts
-    committed =
+    committed crash =
     let found : HasFound g before book.conn (Ok count) = record {
       sound = sound;
       opened = opened;
@@ -38,5 +61,56 @@ found_calls g before closed book count same opened honest ledger shows history s
                 ∙ ap (λ (h : List Entry). length h) (append-nil _ ∙ history kept);
           };
       leaves = λ clean live. (shows (honest clean live), history (honest clean live));
+      crash = crash;
     } in
     subst (λ c. HasFound g before c (Ok count)) (sym same) found
+
+module _ {D : Type 0} {g : disk.Ghosts D} where
+  -- What is true of all that a crash leaves of a store is true of what its files hold.
+  all_hold : (it : FileStore D g) (files : Files D) (Is : Trees → Type 0) → SeenMayStay g
+      → (files.log, files.db) ≡ store_files it → AreClean g files.log files.db
+      → IsTrue (view it).is_numbered → AreDatabases (recovers it)
+      → ((db : Trees) → recovers it db → Is db) → Hold g Is files
+  all_hold it files Is stays same clean numbered sound is =
+      let each : (image : Image) → outcomes g files.log files.db image
+      → ∥ ((db : Trees) × HoldsDatabase image db × Is db) ∥₁ = λ image may.
+      ∥∥₁_map (opens_again it numbered sound image (may_leave_is it.pool image
+      (subst (λ p. AreClean g p.0 p.1) same clean)
+      (subst (λ p. outcomes g p.0 p.1 image) same may)))
+      (λ held. let r : (db : Trees) × HoldsDatabase image db × Is db =
+      (held.0, held.2, is held.0 held.1) in r) in
+      record { now = each _ (stays _, stays _); stopped = each }
+
+  -- What a crash could leave of an open connection is what it showed.
+  shown_or_completed : (was : Held (FileStore D g)) (db : Trees) → SeenMayStay g → IsOpened was
+      → (file_state was).may_leave db ⊎ IsCompletedIn (file_state was).now db
+      → (db ≡ (file_state was).now.trees) ⊎ IsCompletedIn (file_state was).now db
+  shown_or_completed was db stays opened (inl may) = inl (settled_at was.store stays db
+      opened.0.is_open may ∙ ap (λ (d : Database). d.trees) (sym opened.0.clean))
+  shown_or_completed was db stays opened (inr completed) = inr completed
+
+  -- The files of an audited connection hold what it showed before the audit, and what the audit left
+  -- of it.
+  pub keeps_audited : (was left : Held (FileStore D g)) (found : Result ℕ OpenFault)
+      (it : FileStore D g) (files : Files D) → SeenMayStay g → HasFound over_files was left found
+      → IsStoreOf over_files left it → (files.log, files.db) ≡ store_files it
+      → KeepsAudited was left found files
+  keeps_audited was left found it files stays counted of same clean opened =
+      let sure = subst (λ p. AreClean g p.0 p.1) same clean in
+      let none : doubt (view it).is_clean ≡ 0 =
+      no_doubt _ (subst IsTrue (sym (clean_is it.pool)) sure) in
+      let sound : IsClean over_files left = left_clean left it files of.quiet.clean same clean in
+      record {
+        kept = all_hold it files _ stays same clean (of.numbered none) (of.sound none) (λ db may.
+            shown_or_completed was db stays opened
+            (counted.crash sound db (of.quiet.outcomes db may)));
+        finding = λ live. counted.finding sound live;
+        same = λ live. (
+          (file_state left).now,
+          counted.leaves sound live,
+          all_hold it files (λ db. db ≡ (file_state left).now.trees) stays same clean
+              (of.numbered none) (of.sound none) (λ db may.
+              settled_at left.store stays db live (of.quiet.outcomes db may)
+              ∙ ap (λ (d : Database). d.trees) (counted.committed sound live)),
+        );
+      }

@@ -36,7 +36,7 @@ use Rattle.s10_sockets.specs.Unbound.{IsUnbound}
 use Rattle.s10_host.specs.Files.{FileConnection, FileLedger, ClosedFiles, Copies, ClosesInto}
 use Rattle.s10_host.specs.Files.{IsFoundIn, IsFileFault, IsAbsenceOr, IsNotMade, IsNotOpened}
 use Rattle.s10_host.specs.Files.{LeavesClean, AreFilesOf, KeepsRefused}
-use Rattle.s10_host.specs.Audited.{HasFound, audit_line, audit_status}
+use Rattle.s10_host.specs.Audited.{HasFound, KeepsAudited, audit_line, audit_status}
 use Rattle.s10_host.specs.Closing.{IsClosedAs, Turns}
 use Rattle.s10_host.specs.Jobs.{ledger_line, FailsByLedger, FailsByClosing, EndsAs, IsAskedFor}
 use Rattle.s10_host.specs.Jobs.{HasMadeLedger, HasCreated, EndsServed, IsRefusedIn, IsUnopened}
@@ -626,8 +626,8 @@ module _ (S : RattleType) (first : Ghosts S.Denot) where
       → files ≡ Some f → IsFoundIn (image_at first) was → HasFound over_files was left finding
       → IfOk result (λ status. (status ≡ audit_status finding)
       × Appends old new (audit_line finding)) → LeavesClean left f → AreFilesOf left f
-      → HasAudited S first old new result files
-  audited_in was left finding old new result files f is found counted written leaves of =
+      → KeepsAudited was left finding f → HasAudited S first old new result files
+  audited_in was left finding old new result files f is found counted written leaves of kept =
       subst (HasAudited S first old new result) (sym is) (record {
         audited = record {
           opened = was;
@@ -638,6 +638,9 @@ module _ (S : RattleType) (first : Ghosts S.Denot) where
           written = written;
           leaves = leaves;
           of = of;
+          kept = λ clean.
+              let first = found (counted.sound (leaves clean)).0 in
+              (first, kept clean first.0);
         };
         refused = λ none. absurd cc;
       })

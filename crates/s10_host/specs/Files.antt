@@ -1,6 +1,6 @@
 -- Defines ledgers in files, as they are created, opened and closed.
 use denote.RattleType.{RattleType}
-use Rattle.std.specs.Prelude.{◌≡◌, ◌⊎◌, false, List, [], length}
+use Rattle.std.specs.Prelude.{◌≡◌, ◌⊎◌, false, List, [], length, IsTrue}
 use Rattle.sqlite_disk.specs.declared.Disk.{Ghosts}
 use Rattle.sqlite_disk.specs.declared.Files.{Files}
 use Rattle.sqlite_disk.specs.declared.modelled.Modelled.{Modelled}
@@ -10,17 +10,18 @@ use Rattle.sqlite_std_file.specs.declared.host.Host.{Host}
 use Rattle.sqlite_std_file.specs.contracts.host.Host as host
 use Rattle.sqlite_std_file.specs.contracts.host.HostCalls.TheImpl as calls
 use Rattle.sqlite_wal.specs.Recovery.{Image}
-use Rattle.sqlite_wal.specs.Files.{image_at}
+use Rattle.sqlite_wal.specs.Files.{image_at, outcomes}
 use Rattle.sqlite_wal.specs.Reads.{AreClean}
 use Rattle.sqlite_trees.specs.Tree.{Trees}
+use Rattle.sqlite_trees.specs.declared.store.Store as store
 use Rattle.sqlite_store.specs.declared.store.FileStore.{FileStore}
-use Rattle.sqlite_store.specs.FileStore.{view, faults, recovers, is_shielded}
+use Rattle.sqlite_store.specs.FileStore.{view}
 use Rattle.sqlite_store.specs.FileStore.{files as store_files}
-use Rattle.sqlite_trees.specs.View.{IsQuiet, IsRolledBack}
+use Rattle.sqlite_trees.specs.View.{doubt, IsQuiet, IsRolledBack}
 use Rattle.sqlite.specs.Effect.{Database}
-use Rattle.sqlite.specs.Held.{Held}
+use Rattle.sqlite.specs.Held.{Held, AreDatabases}
 use Rattle.sqlite.specs.Files.{file_state, over_files, HoldsDatabase, AreFoundIn, IsBlankAs}
-use Rattle.sqlite.specs.Files.{IsOpened}
+use Rattle.sqlite.specs.Files.{IsOpened, image_of}
 use Rattle.sqlite.specs.Start.{FindsIn}
 use Rattle.sqlite.specs.Closing.{IsCopied}
 use Rattle.s10_schema.specs.Schema.{IsClosedSchema}
@@ -33,6 +34,20 @@ use Rattle.s10_rows.specs.declared.open_fault.OpenFault.TheVariants.{NotALedger,
 use Rattle.s10_ledger.specs.Refusals.{IsOpeningRefusal}
 use Rattle.s10_statements.specs.Creating.{HasOneOfTheNames, IsCreateRefusal}
 use Rattle.s10_statements.specs.ConnectionState.{IsClean, IsOpen}
+
+-- The store is that of the connection, in which what was not committed was undone and nothing else
+-- was changed. If it is clean, what a crash leaves of it is a database.
+pub record IsStoreOf {S : Type 0} (g : store.Ghosts S) (c : Held S) (left : S) : Type 0 where
+  pub numbered : doubt (g.view left).is_clean ≡ 0 → IsTrue (g.view left).is_numbered
+  pub sound : doubt (g.view left).is_clean ≡ 0 → AreDatabases (g.recovers left)
+  pub undone : IsRolledBack (g.view c.store) (g.view left)
+  pub quiet : IsQuiet g.view g.faults g.recovers g.is_shielded c.store left
+
+-- The files hold a database of which the predicate holds, as they read now and after a crash.
+pub record Hold {D : Type 0} (g : Ghosts D) (Is : Trees → Type 0) (files : Files D) : Type 0 where
+  pub now : ∥ ((db : Trees) × HoldsDatabase (image_of g files) db × Is db) ∥₁
+  pub stopped : (image : Image) → outcomes g files.log files.db image
+      → ∥ ((db : Trees) × HoldsDatabase image db × Is db) ∥₁
 
 module _ {D : Type 0} {g : Ghosts D} where
   -- The connection is open and shows what the files held, if the disk is clean.
@@ -94,13 +109,11 @@ module _ {D : Type 0} {g : Ghosts D} where
   abbrev pub LeavesClean : Held (FileStore D g) → Files D → Type 0
   LeavesClean c files = AreClean g files.log files.db → IsClean over_files c
 
-  -- The files are those of the connection's store, in which what was not committed was undone and
-  -- nothing else was changed.
+  -- The files are those of the connection's store.
   pub record AreFilesOf (c : Held (FileStore D g)) (files : Files D) : Type 0 where
-    pub store : FileStore D g
-    pub same : (files.log, files.db) ≡ store_files store
-    pub undone : IsRolledBack (view c.store) (view store)
-    pub quiet : IsQuiet view faults recovers is_shielded c.store store
+    pub left : FileStore D g
+    pub same : (files.log, files.db) ≡ store_files left
+    pub of : IsStoreOf over_files c left
 
   -- The database that a connection showed is refused for this reason, and the files hold it, also
   -- after a crash.

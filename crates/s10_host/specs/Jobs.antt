@@ -30,7 +30,7 @@ use Rattle.s10_jobs.specs.declared.job.Job.{Job}
 use Rattle.s10_jobs.specs.declared.job.Job.TheVariants as job
 use Rattle.s10_jobs.specs.declared.reporting.Report.{Report}
 use Rattle.s10_jobs.specs.declared.reporting.Report.TheVariants.{Ranges, Issues}
-use Rattle.s10_host.specs.Audited.{HasFound, audit_line, audit_status}
+use Rattle.s10_host.specs.Audited.{HasFound, HoldsAudited, audit_line, audit_status}
 use Rattle.s10_jobs.specs.Reporting.{report_lines, PrintsReport}
 use Rattle.s10_jobs.specs.Days.{IsTaken}
 use Rattle.s10_sockets.specs.Questioning.{IsAsked, IsUnasked}
@@ -244,7 +244,7 @@ module _ (S : RattleType) (first : Ghosts S.Denot) where
       × (IsUnopened old new result files ⊎ IsReportOf report old new result files))
 
   -- The ledger in the files was audited, the finding was printed, and the files were closed as they
-  -- are, without a write.
+  -- are, without a write. They hold what they held, if both kept what was written.
   pub record IsAudited (old new : Option (List ℕ)) (result : Result JobStatus WriteFault)
       (files : ClosedFiles S first) : Type 0 where
     pub opened : FileConnection S first
@@ -256,6 +256,9 @@ module _ (S : RattleType) (first : Ghosts S.Denot) where
         × Appends old new (audit_line finding))
     pub leaves : LeavesClean left files
     pub of : AreFilesOf left files
+    pub kept : AreClean (system_files S first) files.log files.db
+        → (IsOpened opened × FindsIn (image_at first) (file_state opened))
+        × HoldsAudited opened left finding files
 
   -- The ledger was audited, or the line says why the files could not be opened.
   pub record HasAudited (old new : Option (List ℕ)) (result : Result JobStatus WriteFault)

@@ -5,7 +5,7 @@ ghost use Rattle.std.specs.Prelude.{◌↔◌, IfSome, IsTrue};
 ghost use Rattle.std.specs.Io.KnownBytes.{Appends};
 ghost use Rattle.sqlite.specs.Files.{over_files};
 ghost use Rattle.s10_rows.specs.declared.open_fault.OpenFault.{OpenFault};
-ghost use Rattle.s10_host.specs.Audited.{HasFound, audit_line, audit_status};
+ghost use Rattle.s10_host.specs.Audited.{HasFound, KeepsAudited, audit_line, audit_status};
 ghost use Rattle.s10_host.specs.Files.{LeavesClean, AreFilesOf};
 ghost use Rattle.s10_host.specs.Jobs.{ledger_line, HasCreated, HasServed, HasReported, HasAudited};
 ghost use Rattle.s10_host.specs.Jobs.{HasAsked, IsRunOn, EndsAs, HasEnded};
@@ -286,7 +286,7 @@ fn run_and_close_file<F: Disk + Drop, D: Days, W: Write>(
         × HasFound over_files connection left found
         × IfOk result.0 (λ status. (status ≡ audit_status found)
         × Appends (W.contents out.old) (W.contents out.new) (audit_line found))
-        × LeavesClean left files × AreFilesOf left files }
+        × LeavesClean left files × AreFilesOf left files × KeepsAudited connection left found files }
 {
     let mut progress = Progress::new(rt, ledger);
     match run_ledger_job(rt, connection, task, days, &mut progress, out) {

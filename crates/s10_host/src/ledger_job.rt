@@ -2,10 +2,10 @@
 
 ghost use Rattle.std.specs.Prelude.{◌≡◌, ℕ, false, Result, IfOk};
 ghost use Rattle.std.specs.Io.KnownBytes.{Appends};
-ghost use Rattle.sqlite_trees.specs.View.{IsQuiet, IsRolledBack};
 ghost use Rattle.s10_rows.specs.declared.open_fault.OpenFault.{OpenFault};
 ghost use Rattle.s10_host.specs.Audited.{HasFound, audit_line, audit_status};
 ghost use Rattle.s10_host.specs.BookJobs.{HasRunBookJob, IsRefusedAs};
+ghost use Rattle.s10_host.specs.Files.{IsStoreOf};
 ghost use Rattle.s10_host.specs.declared.book_job.BookJob.{BookJob};
 
 use crate::audit::run_audit;
@@ -58,8 +58,7 @@ pub fn run_ledger_job<A: Alter + Drop, D: Days, K: Observer, W: Write>(
         × HasFound A.Store connection left found
         × IfOk done (λ status. (status ≡ audit_status found)
         × Appends (W.contents out.old) (W.contents out.new) (audit_line found))
-        × IsRolledBack (A.Store.view left.store) (A.Store.view store)
-        × IsQuiet A.Store.view A.Store.faults A.Store.recovers A.Store.is_shielded left.store store }
+        × IsStoreOf A.Store left store }
 {
     match task {
         LedgerJob::BookJob(work) => match run_book_job(rt, connection, work, days, observer, out) {

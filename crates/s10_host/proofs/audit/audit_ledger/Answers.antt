@@ -8,7 +8,7 @@ returns-in-Ok g c =
     c.len-count.result (c.close-connection.ensures.same c.in-Ok.ensures.none_pending)
     c.in-Ok.ensures.opened c.in-Ok.ensures.honest c.in-Ok.ensures.found c.in-Ok.ensures.same
     c.in-Ok.ensures.history c.in-Ok.ensures.was c.in-Ok.ensures.none_pending
-    c.len-count.ensures.answer c.in-Ok.ensures.committed
+    c.len-count.ensures.answer c.in-Ok.ensures.committed c.in-Ok.ensures.crash
 
 pub returns-in-Err : goal.returns-in-Err
 returns-in-Err g c = record {
@@ -17,4 +17,5 @@ returns-in-Err g c = record {
   committed = λ clean live. sym (c.is_autocommit.ensures.settled (search rules) live);
   finding = c.in-Err.ensures.refused;
   leaves = c.in-Err.ensures.kept;
+  crash = c.in-Err.ensures.crash_refused;
 }

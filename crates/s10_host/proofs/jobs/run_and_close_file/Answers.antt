@@ -1,6 +1,7 @@
 use Rattle.std.proofs.Common.{inl, refl}
 use Rattle.s10_host.proofs.Ending.{asked_alike, no_audit, kept_copied, lost_closing, refused_over}
 use Rattle.s10_host.proofs.Opening.{left_clean}
+use Rattle.s10_host.proofs.Auditing.{keeps_audited}
 use Rattle.s10_host.proofs.jobs.run_and_close_file.Goals as goal
 
 pub returns-in-BookJobEnd-clause-worked : goal.returns-in-BookJobEnd-clause-worked
@@ -68,7 +69,7 @@ returns-in-Audited-clause-worked g c work so =
 
 pub returns-in-Audited-clause-audited : goal.returns-in-Audited-clause-audited
 returns-in-Audited-clause-audited g c so =
-    let (is, left, found, counted, written, undone, quiet) =
+    let (is, left, found, counted, written, of) =
     c.in-Audited.ensures.audited c.in-Audited.audited c.in-Audited.store refl in (
       refl,
       c.close.result,
@@ -77,11 +78,8 @@ returns-in-Audited-clause-audited g c so =
       found,
       counted,
       written,
-      left_clean left c.in-Audited.store c.close.result quiet.clean c.close.ensures,
-      record {
-        store = c.in-Audited.store;
-        same = c.close.ensures;
-        undone = undone;
-        quiet = quiet;
-      },
+      left_clean left c.in-Audited.store c.close.result of.quiet.clean c.close.ensures,
+      record { left = c.in-Audited.store; same = c.close.ensures; of = of },
+      keeps_audited c.args.connection left found c.in-Audited.store c.close.result
+          g.met.F.Disk.seen_may_stay counted of c.close.ensures,
     )

@@ -14,11 +14,11 @@ returns-in-Ok-clause-worked g c work is =
 
 pub returns-in-Ok-clause-audited : goal.returns-in-Ok-clause-audited
 returns-in-Ok-clause-audited g c is =
-    let (_, files, there, left, found, counted, written, leaves, of) =
+    let (_, files, there, left, found, counted, written, leaves, of, kept) =
     c.run_and_close_file-done.ensures.audited is in
     rw c.left_of_task.ensures.files (audited_in _ g.S.Start c.in-Ok.connection left found _ _
     c.run_and_close_file-done.result.0 c.run_and_close_file-done.result.2 files there
-    c.in-Ok.ensures.found counted written leaves of)
+    c.in-Ok.ensures.found counted written leaves of kept)
 
 pub returns-in-Err-clause-worked : goal.returns-in-Err-clause-worked
 returns-in-Err-clause-worked g c work is =

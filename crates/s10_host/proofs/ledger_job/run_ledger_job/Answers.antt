@@ -12,8 +12,12 @@ returns-in-Audit-clause-audited g c done store is =
       found.0,
       found.1,
       found.2,
-      c.into_store.ensures.undone,
-      c.into_store.ensures.quiet,
+      record {
+        numbered = c.into_store.ensures.numbered;
+        sound = c.into_store.ensures.sound;
+        undone = c.into_store.ensures.undone;
+        quiet = c.into_store.ensures.quiet;
+      },
     )
 
 pub returns-in-Ok-clause-worked : goal.returns-in-Ok-clause-worked
