@@ -6,11 +6,13 @@ ghost use Rattle.std.specs.Prelude.{MatchOption};
 ghost use Rattle.std.specs.IoError.{error_kind};
 ghost use Rattle.std.specs.declared.io.ErrorKind.TheVariants.{InvalidData};
 ghost use Rattle.s10_jobs.specs.declared.job_status.JobStatus.TheVariants.{CommandLine, Failed};
+ghost use Rattle.clap.specs.Words.{Text};
+ghost use Rattle.s10_cli.specs.Jobs.{AsksInWords};
 ghost use Rattle.s10.specs.Ends.{RunsWords, RunsJob};
 
-use s10_cli::{flush_buffer, parse_job, run_buffered};
+use s10_cli::{LineEnd, flush_buffer, run_buffered};
 use s10_host::{JobResources, run_job};
-use s10_jobs::{ClockDays, Days, JobStatus};
+use s10_jobs::{ClockDays, Days, Job, JobStatus};
 use s10_lines::WriteFault;
 use sqlite::{Start, Unknown};
 use std::convert::AsStr;
@@ -93,14 +95,18 @@ fn run_streams<S: Start, D: Days, W: AsStr, I: Read + Drop, O: Write + Drop>(
         × RunsJob S.row S.Start D.gives (map W.text words.now) days.old days.new between
         (O.contents ended.output) ended.status left.files left.link left.looped)) }
 {
-    match run_buffered(rt, words, input, output)? {
-        (Some(status), output) => Ok(Ended {
+    let (ended, output) = run_buffered(rt, words, input, output)?;
+    match ended {
+        LineEnd::Ended(status) => Ok(Ended {
             status,
             output,
             left: None,
         }),
-        (None, output) => {
-            let (status, output, left) = run_words(rt, words, start, days, output)?;
+        LineEnd::Asks(job) => {
+            let Some(job) = &job else {
+                return Err(io::Error::from(ErrorKind::OutOfMemory));
+            };
+            let (status, output, left) = run_asked(rt, job, start, days, output)?;
             Ok(Ended {
                 status,
                 output,
@@ -110,23 +116,21 @@ fn run_streams<S: Start, D: Days, W: AsStr, I: Read + Drop, O: Write + Drop>(
     }
 }
 
-// Runs the job that the words ask for. Returns the exit status, the output and the resources.
-fn run_words<S: Start, D: Days, W: AsStr, O: Write + Drop>(
+// Runs the job that a command line asks for. Returns the exit status, the output and the resources.
+fn run_asked<S: Start, D: Days, O: Write + Drop>(
     rt: &HostRuntime,
-    words: &[W],
+    job: &Job<'_>,
     start: S,
     days: &mut D,
     output: O,
 ) -> io::Result<(u8, O, JobResources<S>)>
-    ensures { IfOk result (λ ended. RunsJob S.row S.Start D.gives (map W.text words.now) days.old
-        days.new (O.contents output) (O.contents ended.1) ended.0 ended.2.files ended.2.link
+    ensures { (words : List Text) → AsksInWords words job.now
+        → IfOk result (λ ended. RunsJob S.row S.Start D.gives words days.old days.new
+        (O.contents output) (O.contents ended.1) ended.0 ended.2.files ended.2.link
         ended.2.looped) }
 {
-    let Ok(Some(job)) = parse_job(rt.alloc(), words) else {
-        return Err(io::Error::from(ErrorKind::OutOfMemory));
-    };
     let mut output = BufWriter::new(rt.alloc(), output)?;
-    let (done, left) = run_job(rt, &job, start, days, &mut output);
+    let (done, left) = run_job(rt, job, start, days, &mut output);
     let output = flush_buffer(output)?;
     match done {
         Ok(status) => Ok((status as u8, output, left)),

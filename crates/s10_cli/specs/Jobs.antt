@@ -1,5 +1,5 @@
 -- The job that a subcommand asks for: the option that gives each field.
-use Rattle.std.specs.Prelude.{◌≡◌, ℕ, List, [], Some, codes}
+use Rattle.std.specs.Prelude.{◌≡◌, ℕ, List, [], Option, Some, None, codes, ⊤}
 use Rattle.clap.specs.Words.{Row, Text, fault_of, subcommand_of}
 use Rattle.s10_jobs.specs.declared.job.Job.{Job}
 use Rattle.s10_jobs.specs.declared.job.Job.TheVariants.{Create, Serve, Ask, Report, Audit, Loop}
@@ -10,6 +10,8 @@ use Rattle.s10_jobs.specs.declared.body_words.BodyWords.TheVariants.{Withdraw, V
 use Rattle.s10_grammar.specs.Grammar.{grammar}
 use Rattle.s10_cli.specs.Options.{Finds, HasText, HasNumber, HasSerial, HasSettings, HasCount}
 use Rattle.s10_cli.specs.Options.{HasTries, IsFlag}
+use Rattle.s10_cli.specs.declared.line_end.LineEnd.{LineEnd}
+use Rattle.s10_cli.specs.declared.line_end.LineEnd.TheVariants.{Ended, Asks}
 
 -- The texts of a service and a country.
 abbrev pub HasPair : List Row → List ℕ → List ℕ → Type 0
@@ -57,6 +59,11 @@ AsksFor name rows (Report ledger is_of_issues day) = (name ≡ codes "report")
 AsksFor name rows (Audit ledger) = (name ≡ codes "audit") × HasText rows (codes "ledger") ledger.now
 AsksFor name rows (Loop day) = (name ≡ codes "loop") × Finds (HasNumber rows (codes "day")) day
 
+-- The subcommand that was named asks for the job.
+abbrev pub IsNamedJob : Option (Text × List Row) → Job → Type 0
+IsNamedJob None job = ⊥
+IsNamedJob (Some named) job = AsksFor named.0 named.1 job
+
 -- The words are a command line without a fault, and name a subcommand that asks for the job.
 pub record AsksInWords (words : List Text) (job : Job) : Type 0 where
   pub faultless : fault_of grammar words ≡ []
@@ -64,3 +71,14 @@ pub record AsksInWords (words : List Text) (job : Job) : Type 0 where
   pub rows : List Row
   pub named : subcommand_of grammar words ≡ Some (name, rows)
   pub asks : AsksFor name rows job
+
+-- A command line that asks the program for a job has the job that its words ask for, and none only
+-- if they ask for none.
+abbrev pub AsksByWords : List Text → LineEnd → Type 0
+AsksByWords words (Ended status) = ⊤
+AsksByWords words (Asks job) = Finds (AsksInWords words) job
+
+-- The exit status of a command line that ended.
+abbrev pub status_in : LineEnd → Option ℕ
+status_in (Ended status) = Some status
+status_in (Asks job) = None

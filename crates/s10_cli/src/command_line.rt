@@ -5,9 +5,12 @@ ghost use Rattle.clap.specs.Words.{kind_of, subcommand_rows_of};
 ghost use Rattle.s10_cli.specs.Options.{rows_in};
 ghost use Rattle.s10_cli.specs.CommandLine.{IsDone, IsSubcommandDone, IsFaultPrinted, RunsLine};
 ghost use Rattle.s10_cli.specs.CommandLine.{exit_status, word};
+ghost use Rattle.s10_cli.specs.Jobs.{AsksByWords, status_in};
 
 use crate::buffered::flush_buffer;
 use crate::input::Input;
+use crate::job_words::job_in;
+use crate::line_end::LineEnd;
 use crate::option_values::{flag_of, settings_of, text_of};
 use clap::error::ErrorKind;
 use clap::{ArgMatches, Error};
@@ -19,28 +22,29 @@ use std::convert::AsStr;
 use std::io;
 use std::io::{BufReader, BufWriter, Read, Write};
 
-/// Runs the subcommands `check`, `make`, `show` and `replay`, and returns the exit status.
+/// Runs the subcommands `check`, `make`, `show` and `replay`. Returns the job that any other asks the
+/// program for.
 ///
-/// `words` begins with the program's name. If they name another subcommand, nothing is written, and
-/// `None` is returned: the program runs that one. For each subcommand, help, the version and faults
-/// of the command line end here, with their status. A fault of the command line goes to standard
-/// error, everything else to `output`, which the caller flushes. If memory is lacking, the line is
-/// `memory`.
-pub fn run_line<R: Eprint + AllocGlobal, S: AsStr, I: Read, O: Write>(
+/// `words` begins with the program's name. If they ask for a job, nothing is written. For each
+/// subcommand, help, the version and faults of the command line end here, with their status. A fault
+/// of the command line goes to standard error, everything else to `output`, which the caller
+/// flushes. If memory is lacking, the line is `memory`.
+pub fn run_line<'a, R: Eprint + AllocGlobal, S: AsStr, I: Read, O: Write>(
     rt: &R,
-    words: &[S],
+    words: &'a [S],
     input: &mut I,
     output: &mut O,
-) -> Option<u8>
-    ensures { RunsLine (map S.text words.now) (I.remaining input.old) (I.remaining input.new)
-        (O.contents output.old) (O.contents output.new) result }
+) -> LineEnd<'a>
+    ensures line { RunsLine (map S.text words.entry.now) (I.remaining input.old)
+        (I.remaining input.new) (O.contents output.old) (O.contents output.new) (status_in result) }
+    ensures asks { AsksByWords (map S.text words.entry.now) result }
 {
     match parse(rt.alloc(), words) {
-        Ok(matches) => {
-            let done = run_subcommand(rt.alloc(), &matches, input, output)?;
-            Some(status_of(done))
-        }
-        Err(error) => Some(status_of(report_fault(rt, &error, output))),
+        Ok(matches) => match run_subcommand(rt.alloc(), &matches, input, output) {
+            Some(done) => LineEnd::Ended(status_of(done)),
+            None => LineEnd::Asks(job_in(&matches)),
+        },
+        Err(error) => LineEnd::Ended(status_of(report_fault(rt, &error, output))),
     }
 }
 
@@ -53,35 +57,34 @@ fn status_of(done: Result<JobStatus, WriteFault>) -> u8
     }
 }
 
-/// Runs a command line over buffers, flushes them, and returns the exit status with the output.
-///
-/// The status is `None` if the words ask for a job of the program. Standard error has the reason of
-/// each read of `input` that fails.
+/// Runs a command line over buffers, flushes them, and returns how it ended with the output.
+/// Standard error has the reason of each read of `input` that fails.
 ///
 /// # Errors
 ///
 /// - An error of kind `OutOfMemory` if a buffer cannot be allocated.
 /// - The error of the writer if a write or the flush fails.
-pub fn run_buffered<R, S, I, O>(
+pub fn run_buffered<'a, R, S, I, O>(
     rt: &R,
-    words: &[S],
+    words: &'a [S],
     input: I,
     output: O,
-) -> io::Result<(Option<u8>, O)>
+) -> io::Result<(LineEnd<'a>, O)>
 where
     R: Eprint + AllocGlobal,
     S: AsStr,
     I: Read + Drop,
     O: Write + Drop,
-    ensures { IfOk result (λ ended. (rest : Option (List ℕ)) × (printed : Option (List ℕ))
-        × RunsLine (map S.text words.now) (I.remaining input) rest (O.contents output) printed
-        ended.0 × Keeps printed (O.contents ended.1)) }
+    ensures line { IfOk result (λ ended. (rest : Option (List ℕ)) × (printed : Option (List ℕ))
+        × RunsLine (map S.text words.entry.now) (I.remaining input) rest (O.contents output) printed
+        (status_in ended.0) × Keeps printed (O.contents ended.1)) }
+    ensures asks { IfOk result (λ ended. AsksByWords (map S.text words.entry.now) ended.0) }
 {
     let explained = Input::new(rt, input);
     let mut input = BufReader::new(rt.alloc(), explained)?;
     let mut output = BufWriter::new(rt.alloc(), output)?;
-    let status = run_line(rt, words, &mut input, &mut output);
-    Ok((status, flush_buffer(output)?))
+    let ended = run_line(rt, words, &mut input, &mut output);
+    Ok((ended, flush_buffer(output)?))
 }
 
 fn run_subcommand<I: Read, O: Write>(

@@ -1,7 +1,7 @@
-//! Reads a job from the words of a command line.
-ghost use Rattle.std.specs.Prelude.{map, IfOk};
+//! Reads a job from the options of a command line.
+ghost use Rattle.clap.specs.Words.{subcommand_rows_of};
 ghost use Rattle.s10_cli.specs.Options.{rows_in, Finds};
-ghost use Rattle.s10_cli.specs.Jobs.{AsksFor, AsksInWords};
+ghost use Rattle.s10_cli.specs.Jobs.{AsksFor, IsNamedJob};
 
 use crate::audit_job::audit_job;
 use crate::create_job::create_job;
@@ -14,41 +14,23 @@ use crate::serve_job::serve_job;
 use crate::void_job::void_job;
 use crate::withdraw_job::withdraw_job;
 use clap::ArgMatches;
-use clap::error::ErrorKind;
-use s10_grammar::parse;
 use s10_jobs::Job;
-use std::alloc::{AllocError, Global};
-use std::convert::AsStr;
 
-/// Returns the job that words ask for, or `None` if they ask for no job.
-///
-/// `words` begins with the program's name.
-///
-/// # Errors
-///
-/// `AllocError` if memory is lacking.
-pub fn parse_job<'a, S: AsStr>(alloc: Global, words: &'a [S]) -> Result<Option<Job<'a>>, AllocError>
-    ensures { IfOk result (Finds (AsksInWords (map S.text words.entry.now))) }
+/// Returns the job that a parsed command line asks for, or `None` if it asks for no job.
+pub(crate) fn job_in<'a>(matches: &ArgMatches<'a>) -> Option<Job<'a>>
+    ensures { Finds (IsNamedJob (subcommand_rows_of matches.now)) result }
 {
-    match parse(alloc, words) {
-        Ok(matches) => {
-            let Some((name, found)) = matches.subcommand() else {
-                return Ok(None);
-            };
-            Ok(job_of(name, found))
-        }
-        Err(error) => match error.kind() {
-            ErrorKind::OutOfMemory => Err(AllocError),
-            _ => Ok(None),
-        },
-    }
+    let Some((name, found)) = matches.subcommand() else {
+        return None;
+    };
+    job_of(name, found)
 }
 
-/// Returns the job of a subcommand, from the options found for it.
-///
-/// Returns `None` if no job has this name, or if a required option is missing or its number is out
-/// of range.
-pub fn job_of<'a>(name: &str, found: &ArgMatches<'a>) -> Option<Job<'a>>
+// Returns the job of a subcommand, from the options found for it.
+//
+// Returns `None` if no job has this name, or if a required option is missing or its number is out
+// of range.
+fn job_of<'a>(name: &str, found: &ArgMatches<'a>) -> Option<Job<'a>>
     ensures { Finds (AsksFor name.now (rows_in found.now)) result }
 {
     match name {

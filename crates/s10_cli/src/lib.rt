@@ -10,6 +10,7 @@ mod draw_job;
 mod grant_job;
 mod input;
 mod job_words;
+mod line_end;
 mod loop_job;
 mod option_values;
 mod query_job;
@@ -20,4 +21,4 @@ mod withdraw_job;
 
 pub use buffered::flush_buffer;
 pub use command_line::{run_buffered, run_line};
-pub use job_words::parse_job;
+pub use line_end::LineEnd;

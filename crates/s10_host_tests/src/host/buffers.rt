@@ -1,5 +1,6 @@
 //! The buffered output of a command line.
 
+use crate::host::command_lines::status_of;
 use s10_cli::run_buffered;
 use s10_test_help::refusing::Refusing;
 use s10_test_help::words::Words;
@@ -15,7 +16,11 @@ const NOTHING: &[u8] = b"";
 
 /// Returns the status of a check and the output after it, or `None` if the output fails.
 fn checked<R: Eprint + AllocGlobal, W: Write + Drop>(rt: &R, output: W) -> Option<(Option<u8>, W)> {
-    run_buffered(rt, Words::of(CHECK).as_slice(), NOTHING, output).ok()
+    let words = Words::of(CHECK);
+    match run_buffered(rt, words.as_slice(), NOTHING, output) {
+        Ok((ended, left)) => Some((status_of(&ended), left)),
+        Err(_) => None,
+    }
 }
 
 /// Returns whether a check is done and its line is in the output.

@@ -1,6 +1,6 @@
 //! Command lines that need no ledger and no link.
 
-use s10_cli::run_line;
+use s10_cli::{LineEnd, run_line};
 use s10_test_help::expect::holds;
 use s10_test_help::refusing::Refusing;
 use s10_test_help::words::Words;
@@ -10,6 +10,14 @@ use std::process::Abort;
 
 /// A command line, the exit status, and what is printed.
 type Case = (&'static str, u8, &'static str);
+
+/// Returns the exit status of a command line that ended.
+pub(crate) fn status_of(ended: &LineEnd<'_>) -> Option<u8> {
+    match ended {
+        LineEnd::Ended(status) => Some(*status),
+        LineEnd::Asks(_) => None,
+    }
+}
 
 /// Returns whether a command line over this input has this status and prints this text. A status of
 /// `None` means that the line is left to the program.
@@ -21,7 +29,8 @@ pub(crate) fn prints<R: Eprint + AllocGlobal, I: Read>(
     text: &str,
 ) -> bool {
     let mut output = Vec::new(rt.alloc());
-    run_line(rt, words, input, &mut output) == status && output.as_slice() == text.as_bytes()
+    let ended = run_line(rt, words, input, &mut output);
+    status_of(&ended) == status && output.as_slice() == text.as_bytes()
 }
 
 /// Asserts the status and the text of each command line over this input.
@@ -451,8 +460,9 @@ fn a_fault_of_the_command_line_prints_nothing_to_the_output(rt: HostRuntime) {
 fn prints_at_first<R: Eprint + AllocGlobal>(rt: &R, line: &str, start: &str) -> bool {
     let mut input: &[u8] = b"";
     let mut output = Vec::new(rt.alloc());
-    run_line(rt, Words::of(line).as_slice(), &mut input, &mut output) == Some(0)
-        && output.as_slice().starts_with(start.as_bytes())
+    let words = Words::of(line);
+    let ended = run_line(rt, words.as_slice(), &mut input, &mut output);
+    status_of(&ended) == Some(0) && output.as_slice().starts_with(start.as_bytes())
 }
 
 const HELP: &[(&str, &str)] = &[
@@ -484,7 +494,9 @@ fn help_and_the_version_are_printed_if_asked_for(rt: HostRuntime) {
 
 /// Returns whether a command line fails if nothing can be written.
 fn fails_unwritten<R: Eprint + AllocGlobal>(rt: &R, line: &str, mut input: &[u8]) -> bool {
-    run_line(rt, Words::of(line).as_slice(), &mut input, &mut Refusing) == Some(3)
+    let words = Words::of(line);
+    let ended = run_line(rt, words.as_slice(), &mut input, &mut Refusing);
+    status_of(&ended) == Some(3)
 }
 
 const WRITING: &[&str] = &[

@@ -1,10 +1,11 @@
 //! The jobs that command lines ask for.
 
-use crate::host::command_lines::prints;
+use crate::host::command_lines::{prints, status_of};
 use crate::host::job_words::Subcommand::{
     Audit, Create, Draw, Grant, Loop, Query, Report, Serve, Void, Withdraw,
 };
-use s10_cli::{parse_job, run_line};
+use s10_cli::{LineEnd, run_line};
+use s10_jobs::Job;
 use s10_test_help::expect::holds;
 use s10_test_help::words::Words;
 use std::alloc::Global;
@@ -88,19 +89,26 @@ fn is_shown_as<T: Debug>(alloc: Global, value: &T, text: &str) -> bool {
     }
 }
 
-/// Returns whether the words ask for this job.
-fn asks(alloc: Global, words: &[&str], job: &str) -> bool {
-    match parse_job(alloc, words) {
-        Ok(asked) => is_shown_as(alloc, &asked, job),
-        Err(_) => false,
+/// Returns the job that the words ask for, or `None` if they ask for none.
+pub(crate) fn job_of<'a, R: Eprint + AllocGlobal>(rt: &R, words: &'a [&str]) -> Option<Job<'a>> {
+    let mut input: &[u8] = b"";
+    let mut output = Vec::new(rt.alloc());
+    match run_line(rt, words, &mut input, &mut output) {
+        LineEnd::Asks(job) => job,
+        LineEnd::Ended(_) => None,
     }
 }
 
+/// Returns whether the words ask for this job.
+fn asks<R: Eprint + AllocGlobal>(rt: &R, words: &[&str], job: &str) -> bool {
+    is_shown_as(rt.alloc(), &job_of(rt, words), job)
+}
+
 /// Asserts that each line asks for its job.
-fn ask_as_shown<R: AllocGlobal + Abort + Eprint>(rt: &R, lines: &[Line]) {
+fn ask_as_shown<R: Eprint + AllocGlobal + Abort>(rt: &R, lines: &[Line]) {
     for (line, job) in lines {
         let words = Words::of(line);
-        assert!(rt; holds(rt, line, asks(rt.alloc(), words.as_slice(), job)));
+        assert!(rt; holds(rt, line, asks(rt, words.as_slice(), job)));
     }
 }
 
@@ -180,10 +188,10 @@ fn without<'a>(alloc: Global, words: &[&'a str], option: &str) -> Option<Vec<&'a
     Some(left)
 }
 
-/// Returns whether the words without this option are no command line, and ask for no job.
+/// Returns whether the words without this option are no command line.
 fn is_required<R: Eprint + AllocGlobal>(rt: &R, words: &[&str], option: &str) -> bool {
     match without(rt.alloc(), words, option) {
-        Some(left) => is_silent(rt, &left, Some(2)) && asks(rt.alloc(), &left, "None"),
+        Some(left) => is_silent(rt, &left, Some(2)),
         None => false,
     }
 }
@@ -227,12 +235,18 @@ fn with_value<'a>(
 }
 
 /// Returns whether the words ask for the job of this text with one field changed.
-fn ask_but_for(alloc: Global, words: &[&str], job: &str, field: &str, changed: &str) -> bool {
+fn ask_but_for<R: Eprint + AllocGlobal>(
+    rt: &R,
+    words: &[&str],
+    job: &str,
+    field: &str,
+    changed: &str,
+) -> bool {
     let Some((before, after)) = job.split_once(field) else {
         return false;
     };
-    match [before, changed, after].concat(alloc) {
-        Ok(job) => asks(alloc, words, &job),
+    match [before, changed, after].concat(rt.alloc()) {
+        Ok(job) => asks(rt, words, &job),
         Err(_) => false,
     }
 }
@@ -247,21 +261,22 @@ type Reach = (
 );
 
 /// Returns whether the line with the new value asks for its job with the field changed.
-fn reaches(alloc: Global, reach: &Reach) -> bool {
+fn reaches<R: Eprint + AllocGlobal>(rt: &R, reach: &Reach) -> bool {
     let (subcommand, option, value, field, changed) = reach;
     let Some((line, job)) = line_of(*subcommand) else {
         return false;
     };
-    match with_value(alloc, Words::of(line).as_slice(), option, value) {
-        Some(words) => ask_but_for(alloc, &words, job, field, changed),
+    let words = Words::of(line);
+    match with_value(rt.alloc(), words.as_slice(), option, value) {
+        Some(words) => ask_but_for(rt, &words, job, field, changed),
         None => false,
     }
 }
 
 /// Asserts that each value reaches its own field.
-fn reach_their_fields<R: AllocGlobal + Abort + Eprint>(rt: &R, values: &[Reach]) {
+fn reach_their_fields<R: Eprint + AllocGlobal + Abort>(rt: &R, values: &[Reach]) {
     for reach in values {
-        assert!(rt; holds(rt, reach, reaches(rt.alloc(), reach)));
+        assert!(rt; holds(rt, reach, reaches(rt, reach)));
     }
 }
 
@@ -469,7 +484,8 @@ fn is_refused<R: Eprint + AllocGlobal>(rt: &R, edit: &Edit) -> bool {
     let Some((line, _)) = line_of(*subcommand) else {
         return false;
     };
-    match with_value(rt.alloc(), Words::of(line).as_slice(), option, value) {
+    let words = Words::of(line);
+    match with_value(rt.alloc(), words.as_slice(), option, value) {
         Some(words) => is_silent(rt, &words, Some(2)),
         None => false,
     }
@@ -588,8 +604,9 @@ fn is_explained<R: Eprint + AllocGlobal>(rt: &R, words: &[&str]) -> bool {
     };
     let mut input: &[u8] = b"";
     let mut output = Vec::new(rt.alloc());
-    let status = run_line(rt, &["s10", "help", *name], &mut input, &mut output);
-    status == Some(0) && explains(output.as_slice(), words)
+    let help = ["s10", "help", *name];
+    let ended = run_line(rt, &help, &mut input, &mut output);
+    status_of(&ended) == Some(0) && explains(output.as_slice(), words)
 }
 
 #[test]

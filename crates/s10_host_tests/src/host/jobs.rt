@@ -1,6 +1,6 @@
 //! Jobs of command lines.
 
-use s10_cli::parse_job;
+use crate::host::job_words::job_of;
 use s10_host::run_job;
 use s10_jobs::{ClockDays, Job, JobStatus};
 use s10_test_help::expect::holds;
@@ -17,9 +17,10 @@ fn is_ended(rt: &HostRuntime, job: &Job<'_>, status: JobStatus, line: &str) -> b
 
 /// Returns the same for the job that a command line asks for.
 pub(crate) fn ends_with(rt: &HostRuntime, asked: &str, status: JobStatus, line: &str) -> bool {
-    match parse_job(rt.alloc(), Words::of(asked).as_slice()) {
-        Ok(Some(job)) => is_ended(rt, &job, status, line),
-        _ => false,
+    let words = Words::of(asked);
+    match job_of(rt, words.as_slice()) {
+        Some(job) => is_ended(rt, &job, status, line),
+        None => false,
     }
 }
 

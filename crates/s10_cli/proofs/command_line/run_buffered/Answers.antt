@@ -2,8 +2,8 @@ use Rattle.std.proofs.Common.{◌∙◌, ap}
 use Rattle.s10_cli.proofs.OptionLemmas.{new_reader, new_writer, runs_from}
 use Rattle.s10_cli.proofs.command_line.run_buffered.Goals as goal
 
-pub returns : goal.returns
-returns g c = (
+pub returns-clause-line : goal.returns-clause-line
+returns-clause-line g c = (
   _,
   _,
   runs_from _ _ _ _ _ _ _ _
@@ -12,6 +12,9 @@ returns g c = (
       ∙ ap g.I.Read.remaining c.new-explained.ensures)
       (new_writer g.O.Write.contents c.in_ok-output.output c.args.output
       c.in_ok-output.ensures.inner c.in_ok-output.ensures.empty)
-      c.run_line-status.ensures,
+      c.run_line-ended.ensures.line,
   c.in_ok-flush_buffer.ensures,
 )
+
+pub returns-clause-asks : goal.returns-clause-asks
+returns-clause-asks g c = c.run_line-ended.ensures.asks
