@@ -5,7 +5,7 @@ use Rattle.std.specs.Io.KnownBytes.{Keeps}
 use Rattle.clap.specs.Words.{Text}
 use Rattle.sqlite_disk.specs.declared.start.Start.{Ghosts}
 use Rattle.s10_lines.specs.declared.write_fault.WriteFault.{WriteFault}
-use Rattle.s10_ends.specs.UdpLink.{BoundLink}
+use Rattle.s10_link.specs.UdpLink.{BoundLink}
 use Rattle.s10_jobs.specs.declared.job.Job.{Job}
 use Rattle.s10_jobs.specs.declared.job_status.JobStatus.{JobStatus}
 use Rattle.s10_host.specs.declared.loop_resources.LoopResources.{LoopResources}

@@ -17,4 +17,3 @@ pub mod Standing
 pub mod Composing
 pub mod Stops
 pub mod ReceiveCount
-pub mod Bound

@@ -8,6 +8,5 @@ pub mod Turn
 pub mod Batch
 pub mod NearLink
 pub mod Calls
-pub mod UdpLink
 pub mod Composed
 pub mod NearEnds

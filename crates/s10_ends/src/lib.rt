@@ -1,4 +1,4 @@
-//! Defines both ends, the server and the client, and the links between them.
+//! Defines both ends, the server and the client, and the link between two ends in one process.
 #![tactic(auto)]
 
 mod answer;
@@ -19,7 +19,6 @@ mod server;
 mod server_turn;
 mod submit_fault;
 mod turn;
-mod udp_link;
 
 pub use answer::Answer;
 pub use bad_numbers::BadNumbers;
@@ -36,4 +35,3 @@ pub use server::Server;
 pub use server_turn::{ServerTurn, Turn};
 pub use submit_fault::SubmitFault;
 pub use turn::{serve_batch_of_one, serve_one};
-pub use udp_link::UdpLink;

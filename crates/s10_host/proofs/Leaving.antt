@@ -13,13 +13,13 @@ use Rattle.s10_link.specs.declared.trace.Trace.{Trace}
 use Rattle.s10_link.specs.Link.{LeadsTo}
 use Rattle.s10_link.specs.Link.LeadsTo.{none as led_none, more}
 use Rattle.s10_link.proofs.Led.{led_on}
-use Rattle.s10_ends.proofs.Bound.{at_stays, still_bound}
+use Rattle.s10_link.proofs.Bound.{at_stays, still_bound}
 use Rattle.s10_link.specs.Trace.{new_trace}
 use Rattle.s10_history.specs.declared.entry.Entry.{Entry}
 use Rattle.s10_history.specs.Settings.{Terms}
 use Rattle.s10_ledger.specs.Ledger.{IsOverCleanDisk, MayFind, Ledger, IsHonest, history_in}
 use Rattle.s10_ledger.specs.Ledger.{history_of, committed_of}
-use Rattle.s10_ends.specs.UdpLink.{BoundLink, IsBoundAt}
+use Rattle.s10_link.specs.UdpLink.{BoundLink, IsBoundAt}
 use Rattle.s10_ends.specs.Server.{book_of}
 use Rattle.s10_ends.specs.NearLink.{ServedOn}
 use Rattle.s10_ends.proofs.Near.{LedOn, Whole, near_led, near_whole}

@@ -29,7 +29,7 @@ use Rattle.s10_host.specs.Files.{IsFoundIn, WhereClean, IsEmptyBook, IsFoundBook
 use Rattle.s10_host.specs.Files.{ClosesInto, LeavesClean}
 use Rattle.s10_host.specs.Closing.{IsClosedAs, Turns}
 use Rattle.s10_lines.specs.declared.write_fault.WriteFault.{WriteFault}
-use Rattle.s10_ends.specs.UdpLink.{BoundLink}
+use Rattle.s10_link.specs.UdpLink.{BoundLink}
 use Rattle.s10_jobs.specs.declared.job_status.JobStatus.{JobStatus}
 use Rattle.s10_jobs.specs.declared.job_status.JobStatus.TheVariants.{Done}
 use Rattle.s10_jobs.specs.declared.reporting.Report.{Report}
@@ -46,7 +46,7 @@ use Rattle.s10_host.specs.declared.book_job.BookJob.{BookJob}
 use Rattle.s10_host.specs.declared.book_job.BookJob.TheVariants.{Create, Serve, Report as ReportOn}
 use Rattle.s10_host.specs.BookJobs.{IsMadeWith, IsOpenedFrom, HasRunBookJob, IsRefusedLeft}
 use Rattle.s10_host.specs.BookJobs.{IsBookJobRefusal, IsRefusedBy, IsRefusedAs}
-use Rattle.s10_ends.specs.UdpLink.{IsBoundAt}
+use Rattle.s10_link.specs.UdpLink.{IsBoundAt}
 use Rattle.s10_statements.specs.Creating.{HasOneOfTheNames, IsCreateRefusal}
 use Rattle.s10_host.specs.Files.{KeepsRefused}
 

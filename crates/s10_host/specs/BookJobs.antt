@@ -17,7 +17,7 @@ use Rattle.s10_book.specs.declared.book_fault.BookFault.{BookFault}
 use Rattle.s10_book.specs.Book.{Unchanged}
 use Rattle.sqlite.specs.Effect.{Database}
 use Rattle.s10_link.specs.declared.peer.Peer.{Peer}
-use Rattle.s10_ends.specs.UdpLink.{BoundLink, IsBoundAt}
+use Rattle.s10_link.specs.UdpLink.{BoundLink, IsBoundAt}
 use Rattle.s10_rows.specs.declared.open_fault.OpenFault.{OpenFault}
 use Rattle.s10_schema.specs.Schema.{IsClosedSchema}
 use Rattle.s10_statements.specs.ConnectionState.{IsClean, IsOpen, WasSound}

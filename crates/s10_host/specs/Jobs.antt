@@ -11,7 +11,7 @@ use Rattle.sqlite.specs.Files.{over_files, file_state, IsOpened}
 use Rattle.sqlite.specs.Start.{FindsIn}
 use Rattle.s10_link.specs.declared.peer.Peer.{Peer}
 use Rattle.s10_link.specs.Peer.{SpellsPeer}
-use Rattle.s10_ends.specs.UdpLink.{BoundLink, IsBoundAt}
+use Rattle.s10_link.specs.UdpLink.{BoundLink, IsBoundAt}
 use Rattle.s10_lines.specs.declared.write_fault.WriteFault.{WriteFault}
 use Rattle.s10_lines.specs.Lines.{line_of}
 use Rattle.s10_history.specs.Settings.{Terms}

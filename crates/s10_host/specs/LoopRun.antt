@@ -12,7 +12,7 @@ use Rattle.s10_link.specs.Link.{LeadsTo}
 use Rattle.s10_history.specs.Settings.{Terms}
 use Rattle.s10_ledger.specs.Ledger.{IsOverCleanDisk, MayFind, Ledger, IsHonest, history_in}
 use Rattle.s10_ledger.specs.Ledger.{history_of, committed_of}
-use Rattle.s10_ends.specs.UdpLink.{BoundLink, IsBoundAt}
+use Rattle.s10_link.specs.UdpLink.{BoundLink, IsBoundAt}
 use Rattle.s10_ends.specs.NearEnds.{NearEnds}
 use Rattle.s10_ends.specs.Server.{book_of}
 use Rattle.s10_ends.specs.NearLink.{IsNearStep, ServedOn}

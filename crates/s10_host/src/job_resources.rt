@@ -2,7 +2,7 @@
 
 use crate::files::ClosedFiles;
 use crate::loop_resources::LoopResources;
-use s10_ends::UdpLink;
+use s10_link::UdpLink;
 use sqlite::Start;
 
 /// The resources of a job, each if there is one.

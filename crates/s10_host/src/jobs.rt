@@ -23,7 +23,6 @@ use crate::loop_resources::LoopResources;
 use crate::loopback::run_loop;
 use crate::progress::Progress;
 use s10_book::BookFault;
-use s10_ends::UdpLink;
 use s10_history::Settings;
 use s10_jobs::{
     Days, Job, JobStatus, Question, Report, fail_by_clock, fail_by_ledger, fail_by_link, next_day,
@@ -31,7 +30,7 @@ use s10_jobs::{
 };
 use s10_ledger::{OpenFault, Refused};
 use s10_lines::{WriteFault, write_text};
-use s10_link::Peer;
+use s10_link::{Peer, UdpLink};
 use s10_sockets::{ask_question, bind_client, eprint_failure};
 use sqlite::{Connection, FileStore, Files, Start};
 use sqlite_disk::Disk;

@@ -1,6 +1,6 @@
 //! What a loop returns besides its result.
 
-use s10_ends::UdpLink;
+use s10_link::UdpLink;
 use sqlite::{Connection, MemStore};
 
 /// The resources of a loop.

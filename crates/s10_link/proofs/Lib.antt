@@ -2,3 +2,4 @@ mod SameFrames
 mod Scripts
 mod Numerals
 pub mod Led
+pub mod Bound

@@ -2,3 +2,4 @@ pub mod Peer
 pub mod Trace
 pub mod Link
 pub mod ScriptLink
+pub mod UdpLink

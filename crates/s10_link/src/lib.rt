@@ -1,4 +1,5 @@
-//! Links, which carry datagrams: an end of an unreliable network, its peers, and its trace.
+//! Links, which carry datagrams: an end of an unreliable network, its peers, and its trace; the
+//! link over a UDP socket.
 #![tactic(auto)]
 
 mod laws;
@@ -9,6 +10,7 @@ mod peer;
 mod receipt;
 mod script_link;
 mod trace;
+mod udp_link;
 
 pub use laws::datagrams_fit;
 pub use link::Link;
@@ -18,3 +20,4 @@ pub use peer::Peer;
 pub use receipt::Receipt;
 pub use script_link::ScriptLink;
 pub use trace::Trace;
+pub use udp_link::UdpLink;

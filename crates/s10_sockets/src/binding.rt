@@ -1,12 +1,11 @@
 //! Binds a socket and makes it a link.
 
 ghost use Rattle.std.specs.Prelude.{◌≡◌, IfOk, IfErr};
-ghost use Rattle.s10_ends.specs.UdpLink.{IsBoundAt};
+ghost use Rattle.s10_link.specs.UdpLink.{IsBoundAt};
 ghost use Rattle.s10_link.specs.Trace.{new_trace};
 ghost use Rattle.s10_sockets.specs.Questioning.{any_address};
 
-use s10_ends::UdpLink;
-use s10_link::{LinkFault, Peer};
+use s10_link::{LinkFault, Peer, UdpLink};
 use std::net::{Ipv4Addr, Net, SocketAddr, SocketAddrV4, UdpSocket};
 
 /// The maximum wait of a receive in milliseconds, at a server and at a client.

@@ -1,7 +1,6 @@
 //! Explains the failure of a link on standard error.
 
-use s10_ends::UdpLink;
-use s10_link::Peer;
+use s10_link::{Peer, UdpLink};
 
 /// Prints the system's error of the link's last call that failed, if one has failed.
 ///

@@ -1,17 +1,17 @@
 //! Serves a book over a socket of its own.
 
 ghost use Rattle.std.specs.Prelude.{◌≡◌, None, IfSome};
-ghost use Rattle.s10_ends.specs.UdpLink.{IsBoundAt};
+ghost use Rattle.s10_link.specs.UdpLink.{IsBoundAt};
 ghost use Rattle.s10_link.specs.Trace.{new_trace};
 ghost use Rattle.s10_jobs.specs.Serving.{ServesTurns};
 ghost use Rattle.s10_sockets.specs.Unbound.{IsUnbound};
 
 use crate::binding::bind_link;
 use s10_book::{GroupCommit, LastFailure};
-use s10_ends::{Server, UdpLink};
+use s10_ends::Server;
 use s10_jobs::{Days, JobStatus, fail_by_link, serve_turns};
 use s10_lines::WriteFault;
-use s10_link::Peer;
+use s10_link::{Peer, UdpLink};
 use std::alloc::Global;
 use std::io::Write;
 use std::net::Net;

@@ -1,11 +1,10 @@
 //! Servers at addresses of this machine.
 
 use s10_book::PlainBook;
-use s10_ends::UdpLink;
 use s10_history::Settings;
 use s10_jobs::{ClockDays, JobStatus};
 use s10_lines::WriteFault;
-use s10_link::Peer;
+use s10_link::{Peer, UdpLink};
 use s10_sockets::serve_at;
 use std::io::Write;
 use std::net::Net;

@@ -1,9 +1,9 @@
 //! Servers over books, scripted links, and calls, for several of these tests.
 
 use s10_book::{Book, PlainBook};
-use s10_ends::{Client, Server, UdpLink, call};
+use s10_ends::{Client, Server, call};
 use s10_history::Settings;
-use s10_link::{Link, Peer, ScriptLink};
+use s10_link::{Link, Peer, ScriptLink, UdpLink};
 use s10_test_help::asked::Asked;
 use s10_test_help::datagrams::GRANT;
 use s10_wire::{Body, Request, encode_reply};

@@ -2,8 +2,8 @@
 
 use crate::ends::fixtures::{bound, is_answered, new_server, request};
 use s10_book::{Book, PlainBook};
-use s10_ends::{Client, Server, ServerTurn, UdpLink, serve_one};
-use s10_link::{Link, Packet, Peer};
+use s10_ends::{Client, Server, ServerTurn, serve_one};
+use s10_link::{Link, Packet, Peer, UdpLink};
 use s10_test_help::asked::Asked;
 use s10_test_help::expect::holds;
 use s10_wire::{WireFault, decode_reply, encode_reply, encode_request};

@@ -2,8 +2,7 @@
 //! receive waits.
 
 use crate::ends::fixtures::{ANY_PORT, bound, request};
-use s10_ends::UdpLink;
-use s10_link::{Link, Packet, Peer};
+use s10_link::{Link, Packet, Peer, UdpLink};
 use s10_test_help::expect::holds;
 use s10_wire::{Frame, encode_request};
 use std::net::{Ipv4Addr, Net, SocketAddr, SocketAddrV4, UdpSocket};

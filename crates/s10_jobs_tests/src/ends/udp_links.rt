@@ -1,8 +1,7 @@
 //! Links of two sockets of this machine.
 
 use crate::ends::fixtures::{ANY_PORT, bound, request};
-use s10_ends::UdpLink;
-use s10_link::{Link, LinkFault, Packet, Trace};
+use s10_link::{Link, LinkFault, Packet, Trace, UdpLink};
 use s10_test_help::datagrams::DRAW;
 use s10_test_help::expect::holds;
 use s10_wire::{Frame, encode_request};

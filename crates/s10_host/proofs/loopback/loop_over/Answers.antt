@@ -1,6 +1,6 @@
 use Rattle.std.proofs.Common.{◌∙◌, ap, refl}
 use Rattle.s10_ends.specs.NearEnds.{NearEnds}
-use Rattle.s10_ends.specs.UdpLink.{BoundLink}
+use Rattle.s10_link.specs.UdpLink.{BoundLink}
 use Rattle.s10_ends.specs.Server.{book_of}
 use Rattle.s10_host.proofs.loopback.loop_over.Goals as goal
 

@@ -4,7 +4,7 @@ use Rattle.sqlite.specs.Steps.{over_memory}
 use Rattle.s10_history.specs.declared.entry.Entry.{Entry}
 use Rattle.s10_ledger.specs.Ledger.{Ledger, IsHonest, history_of, committed_of}
 use Rattle.s10_ends.specs.Server.{book_of}
-use Rattle.s10_ends.specs.UdpLink.{BoundLink, IsBoundAt}
+use Rattle.s10_link.specs.UdpLink.{BoundLink, IsBoundAt}
 use Rattle.std.specs.Prelude.{IfOk}
 use Rattle.s10_jobs.specs.Shown.{Prints}
 use Rattle.s10_sockets.specs.LoopCalls.{loop_calls, AreMadeInTurn}

@@ -1,5 +1,5 @@
 use Rattle.std.proofs.Common.{rules}
-use Rattle.s10_ends.proofs.Bound.{still_bound}
+use Rattle.s10_link.proofs.Bound.{still_bound}
 use Rattle.s10_sockets.proofs.serving.serve_at.Goals as goal
 
 pub returns-clause-served : goal.returns-clause-served

@@ -3,7 +3,7 @@ use Rattle.std.proofs.Common.{◌≡◌, ◌∙◌, refl, sym, subst}
 use Rattle.s10_link.specs.declared.peer.Peer.{Peer}
 use Rattle.s10_link.specs.Link.{LeadsTo}
 use Rattle.s10_link.specs.Link.LeadsTo.{none, more}
-use Rattle.s10_ends.specs.UdpLink.{BoundLink, IsBoundAt}
+use Rattle.s10_link.specs.UdpLink.{BoundLink, IsBoundAt}
 
 -- Calls of a link leave it at its address.
 pub at_stays : (old new : BoundLink)

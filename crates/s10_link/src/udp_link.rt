@@ -3,9 +3,13 @@
 ghost use Rattle.std.specs.Prelude.{◌≡◌, ◌↔◌, IsTrue};
 ghost use Rattle.std.specs.Net.Addr.{ipv4_octets};
 ghost use Rattle.std.specs.Net.Socket.{v4_ip, v4_port};
-ghost use Rattle.s10_ends.specs.UdpLink.{IsBoundAt};
+ghost use Rattle.s10_link.specs.UdpLink.{IsBoundAt};
 
-use s10_link::{Link, LinkFault, Packet, Peer, Trace};
+use crate::link::Link;
+use crate::link_fault::LinkFault;
+use crate::packet::Packet;
+use crate::peer::Peer;
+use crate::trace::Trace;
 use s10_wire::Frame;
 use std::io;
 use std::io::ErrorKind;
@@ -30,7 +34,7 @@ pub struct UdpLink {
 
 impl Model for UdpLink {
     ghost use Rattle.s10_link.specs.Trace.{IsCounted};
-    ghost use Rattle.s10_ends.specs.UdpLink.{BoundLink};
+    ghost use Rattle.s10_link.specs.UdpLink.{BoundLink};
 
     ghost Value = { BoundLink };
 
@@ -43,7 +47,7 @@ impl UdpLink {
     ghost use Rattle.std.specs.Prelude.{◌≡◌, ◌-◌, ◌^◌, ◌<◌, IfOk, IfErr};
     ghost use Rattle.s10_link.specs.Trace.{new_trace};
     ghost use Rattle.s10_link.specs.Link.{Receives};
-    ghost use Rattle.s10_ends.specs.UdpLink.{IsBoundAt};
+    ghost use Rattle.s10_link.specs.UdpLink.{IsBoundAt};
 
     /// Binds a socket to the address `at`; with port 0 the system picks a port.
     ///
