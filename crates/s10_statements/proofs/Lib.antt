@@ -10,7 +10,6 @@ pub mod ClosedReads
 pub mod PutLemmas
 pub mod WriteTexts
 pub mod KeepLemmas
-pub mod KeptCommits
 pub mod MakeLemmas
 pub mod HeadLemmas
 pub mod GoneLemmas

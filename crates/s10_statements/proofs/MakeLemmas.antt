@@ -1,5 +1,8 @@
 -- The database after the statements that create a ledger in an empty one.
-use Rattle.std.proofs.Common.{◌≡◌, ℕ, List, [], ◌∷◌, false, None, Ok, refl, sym, ap, subst, ◌∙◌}
+use Rattle.std.proofs.Common.{◌≡◌, ℕ, List, [], ◌∷◌, ◌++◌, false, None, Ok, Result, refl, sym, ap}
+use Rattle.std.proofs.Common.{subst, ◌∙◌}
+use Rattle.std.specs.Borrow.{MutBor}
+use Rattle.std.specs.List.{AllByRecursion}
 use Rattle.std.proofs.lemmas.List.Sorted.{IsPermutation-refl}
 use Rattle.sqlite_schema.specs.declared.schema.Schema.{Schema}
 use Rattle.sqlite_schema.specs.declared.schema.Table.{Table}
@@ -7,6 +10,10 @@ use Rattle.sqlite_schema.specs.declared.command.Command.TheVariants.{CreateTable
 use Rattle.sqlite_resolve.specs.Compile.{table_defined_by}
 use Rattle.sqlite_catalog.specs.Change.{created, next_tree, KeepsRows}
 use Rattle.sqlite_tied.specs.Compute.{everything}
+use Rattle.sqlite_trees.specs.Tree.{Trees}
+use Rattle.sqlite_trees.specs.declared.store.Store.{Ghosts}
+use Rattle.sqlite.specs.declared.error.Error.{Error}
+use Rattle.sqlite.specs.Held.{Held, state}
 use Rattle.sqlite.specs.Does.{Tally, lacks_sequence}
 use Rattle.sqlite.specs.Effect.{Database}
 use Rattle.sqlite.specs.Given.{IsPlain}
@@ -20,19 +27,22 @@ use Rattle.s10_statements.specs.Statements.{create_head_sql, create_calls_sql, c
 use Rattle.s10_statements.specs.Statements.{create_serials_sql, create_closed_sql}
 use Rattle.s10_rows.specs.Tables.{Tables, no_rows}
 use Rattle.s10_statements.specs.Shown.{HasTables, HasOldTables}
+use Rattle.s10_statements.specs.ConnectionState.{IsOpen}
+use Rattle.s10_statements.specs.Steps.{IsStep}
+use Rattle.s10_statements.proofs.StepLemmas.{Succeeds, step_none, step_then}
 use Rattle.s10_statements.proofs.PutLemmas.{went, same_value}
 
-abbrev one_table : Schema
+abbrev pub one_table : Schema
 one_table = record { tables = head_table ∷ []; indexes = []; views = [] }
 
-abbrev two_tables : Schema
+abbrev pub two_tables : Schema
 two_tables = record {
   tables = head_table ∷ calls_table ∷ [];
   indexes = calls_index ∷ [];
   views = [];
 }
 
-abbrev three_tables : Schema
+abbrev pub three_tables : Schema
 three_tables = record {
   tables = head_table ∷ calls_table ∷ ranges_table ∷ [];
   indexes = calls_index ∷ [];
@@ -48,7 +58,7 @@ pub record Defines (schema : Schema) (text : List ℕ) (table : Table) (next : S
   pub is : created schema table ≡ next
   pub uncounted : lacks_sequence next ≡ false
 
-head_defined : Defines no_schema create_head_sql (record head_table { tree = 0 }) one_table
+pub head_defined : Defines no_schema create_head_sql (record head_table { tree = 0 }) one_table
 unfolding understood everything
 head_defined = record {
   command = refl;
@@ -59,7 +69,7 @@ head_defined = record {
   uncounted = refl;
 }
 
-calls_defined : Defines one_table create_calls_sql (record calls_table { tree = 0 }) two_tables
+pub calls_defined : Defines one_table create_calls_sql (record calls_table { tree = 0 }) two_tables
 unfolding understood everything
 calls_defined = record {
   command = refl;
@@ -70,7 +80,7 @@ calls_defined = record {
   uncounted = refl;
 }
 
-ranges_defined : Defines two_tables create_ranges_sql (record ranges_table { tree = 0 })
+pub ranges_defined : Defines two_tables create_ranges_sql (record ranges_table { tree = 0 })
     three_tables
 unfolding understood everything
 ranges_defined = record {
@@ -82,7 +92,7 @@ ranges_defined = record {
   uncounted = refl;
 }
 
-serials_defined : Defines three_tables create_serials_sql (record serials_table { tree = 0 })
+pub serials_defined : Defines three_tables create_serials_sql (record serials_table { tree = 0 })
     four_tables
 unfolding understood everything
 serials_defined = record {
@@ -94,7 +104,7 @@ serials_defined = record {
   uncounted = refl;
 }
 
-closed_defined : Defines four_tables create_closed_sql (record closed_table { tree = 0 })
+pub closed_defined : Defines four_tables create_closed_sql (record closed_table { tree = 0 })
     ledger_schema
 unfolding understood everything
 closed_defined = record {
@@ -145,58 +155,55 @@ is_ledger = record {
   indexes = refl;
 }
 
--- The five statements, one after another.
-module _ (s0 s1 s2 s3 s4 s5 : State) (m n p q r : ℕ) (has : s0.now.schema ≡ no_schema)
-    (h1 : Executes create_head_sql [] s0 s1 (Ok m)) (h2 : Executes create_calls_sql [] s1 s2 (Ok n))
-    (h3 : Executes create_ranges_sql [] s2 s3 (Ok p))
-    (h4 : Executes create_serials_sql [] s3 s4 (Ok q))
-    (h5 : Executes create_closed_sql [] s4 s5 (Ok r)) where
-  head_next : IsNext no_schema one_table s0.now s1.now
-  head_next = makes no_schema create_head_sql (record head_table { tree = 0 }) one_table
-      head_defined s0 s1 m has h1
+-- The schema is declared, and its tables are empty.
+pub record HasEmpty (schema : Schema) (db : Database) : Type 0 where
+  pub schema_is : db.schema ≡ schema
+  pub empty : AllByRecursion (λ t. db.trees t.tree ≡ []) schema.tables
 
-  calls_next : IsNext one_table two_tables s1.now s2.now
-  calls_next = makes one_table create_calls_sql (record calls_table { tree = 0 }) two_tables
-      calls_defined s1 s2 n head_next.schema_is h2
+empty_still : (ts : List Table) (t : Table) (old new : Trees) → KeepsRows ts old new
+    → AllByRecursion (λ t. old t.tree ≡ []) ts → new t.tree ≡ []
+    → AllByRecursion (λ t. new t.tree ≡ []) (ts ++ t ∷ [])
+empty_still [] t old new same all last = (last, tt)
+empty_still (x ∷ ts) t old new same all last =
+    (same.0 ∙ all.0, empty_still ts t old new same.1 all.1 last)
 
-  ranges_next : IsNext two_tables three_tables s2.now s3.now
-  ranges_next = makes two_tables create_ranges_sql (record ranges_table { tree = 0 }) three_tables
-      ranges_defined s2 s3 p calls_next.schema_is h3
+-- In an empty database, the statement after those that declared the schema.
+pub made_next : {S T U : Type 0} {g : Ghosts S} {a b c : MutBor (Held S)} {x : T}
+    {r : Result U Error} {schema : Schema} {text : List ℕ} {table : Table} {next : Schema}
+    → Defines schema text table next
+    → IsStep g a b (Ok x) ((state g a.now).now.schema ≡ no_schema
+    → HasEmpty schema (state g b.now).now)
+    → IsStep g b c r (IsOpen g b.now × ((count : ℕ) × Executes text [] (state g b.now)
+    (state g c.now) (Ok count)))
+    → IsStep g a c r ((state g a.now).now.schema ≡ no_schema → HasEmpty next (state g c.now).now)
+made_next {g = g} {b = b} {c = c} {schema = schema} {text = text} {table = table} {next = next} d
+    so_far run =
+    step_then so_far run (λ made ran none.
+    let was = made none in
+    let n = makes schema text table next d (state g b.now) (state g c.now) ran.1.0
+    was.schema_is ran.1.1 in
+    record {
+      schema_is = n.schema_is;
+      empty = subst (λ (s : Schema). AllByRecursion (λ t. (state g c.now).now.trees t.tree ≡ [])
+          s.tables) d.is (empty_still schema.tables (record table { tree = next_tree schema })
+          (state g b.now).now.trees (state g c.now).now.trees n.others was.empty n.empty);
+    })
 
-  serials_next : IsNext three_tables four_tables s3.now s4.now
-  serials_next = makes three_tables create_serials_sql (record serials_table { tree = 0 })
-      four_tables serials_defined s3 s4 q ranges_next.schema_is h4
+pub none_made : {S : Type 0} (g : Ghosts S) (a : MutBor (Held S))
+    → Succeeds g a a ((state g a.now).now.schema ≡ no_schema
+    → HasEmpty no_schema (state g a.now).now)
+none_made g a = step_none g a (λ none. record { schema_is = none; empty = tt })
 
-  closed_next : IsNext four_tables ledger_schema s4.now s5.now
-  closed_next = makes four_tables create_closed_sql (record closed_table { tree = 0 }) ledger_schema
-      closed_defined s4 s5 r serials_next.schema_is h5
-
-  pub all_made : HasTables s5.now no_rows
-  all_made =
-      let a = head_next in
-      let b = calls_next in
-      let c = ranges_next in
-      let d = serials_next in
-      let e = closed_next in
-      let heads : s5.now.trees 0 ≡ [] = e.others.0 ∙ d.others.0 ∙ c.others.0 ∙ b.others.0
-      ∙ a.empty in
-      let calls : s5.now.trees 1 ≡ [] = e.others.1.0 ∙ d.others.1.0 ∙ c.others.1.0 ∙ b.empty in
-      let ranges : s5.now.trees 3 ≡ [] = e.others.1.1.0 ∙ d.others.1.1.0 ∙ c.empty in
-      let serials : s5.now.trees 4 ≡ [] = e.others.1.1.1.0 ∙ d.empty in
-      let closed : s5.now.trees 6 ≡ [] = e.empty in
-      record {
-        schema = subst IsClosedSchema (sym e.schema_is) is_ledger;
-        heads = rw heads (∣ IsPermutation-refl [] ∣₁);
-        calls = rw calls (∣ IsPermutation-refl [] ∣₁);
-        ranges = rw ranges (∣ IsPermutation-refl [] ∣₁);
-        serials = rw serials (∣ IsPermutation-refl [] ∣₁);
-        numbered = rw serials tt;
-        closed = rw closed (∣ IsPermutation-refl [] ∣₁);
-      }
-
-  -- Nothing else is declared.
-  pub all_declared : s5.now.schema ≡ ledger_schema
-  all_declared = closed_next.schema_is
+pub all_made : (db : Database) → HasEmpty ledger_schema db → HasTables db no_rows
+all_made db it = record {
+  schema = subst IsClosedSchema (sym it.schema_is) is_ledger;
+  heads = rw it.empty.0 (∣ IsPermutation-refl [] ∣₁);
+  calls = rw it.empty.1.0 (∣ IsPermutation-refl [] ∣₁);
+  ranges = rw it.empty.1.1.0 (∣ IsPermutation-refl [] ∣₁);
+  serials = rw it.empty.1.1.1.0 (∣ IsPermutation-refl [] ∣₁);
+  numbered = rw it.empty.1.1.1.0 tt;
+  closed = rw it.empty.1.1.1.1.0 (∣ IsPermutation-refl [] ∣₁);
+}
 
 -- The fifth statement alone, in a database of an earlier build.
 pub gets_closed : (old new : State) (count : ℕ) (tables : Tables) → HasOldTables old.now tables

@@ -1,11 +1,8 @@
 -- The writes so far, of those of a call.
-use Rattle.std.proofs.Common.{◌≡◌, inl, ℕ, zero, suc, ◌+◌, ◌≤◌, ◌<◌, List, [], ◌∷◌, ◌++◌, length}
-use Rattle.std.proofs.Common.{filter, take, get_or, IsTrue, true, refl, sym, ap, subst, ◌∙◌, arith}
+use Rattle.std.proofs.Common.{◌≡◌, ℕ, zero, suc, ◌+◌, ◌≤◌, ◌<◌, List, [], ◌∷◌, ◌++◌, length}
+use Rattle.std.proofs.Common.{filter, take, get_or, refl, sym, ap, subst, ◌∙◌, arith}
 use Rattle.std.proofs.lemmas.List.{take_more}
 use Rattle.sqlite.specs.Effect.{Database}
-use Rattle.sqlite.specs.State.{State, HasCleanDisk, KeepsCommit, Shows, Survives}
-use Rattle.sqlite.proofs.InsideLemmas.{keeps_then}
-use Rattle.sqlite.proofs.StateLemmas.{survives_then}
 use Rattle.s10_rows.specs.declared.range_row.RangeRow.{RangeRow}
 use Rattle.s10_rows.specs.declared.range_write.RangeWrite.{RangeWrite}
 use Rattle.s10_rows.specs.declared.serial_row.SerialRow.{SerialRow}
@@ -14,58 +11,6 @@ use Rattle.s10_rows.specs.Tables.{Tables}
 use Rattle.s10_rows.specs.RowWrites.{FindAtMostOne, is_at, row_of, with_range, with_ranges}
 use Rattle.s10_rows.specs.RowWrites.{with_serial, with_serials}
 use Rattle.s10_statements.specs.Shown.{HasTables}
-
--- In a transaction, the tables that fit become these.
-pub record AreMade (old new : State) (Fits : Tables → Type 0) (after : Tables → Tables) :
-    Type 0 where
-  pub made : HasCleanDisk new → IsTrue old.in_transaction → (tables : Tables) → Fits tables
-      → HasTables old.now tables → HasTables new.now (after tables)
-  pub inside : HasCleanDisk new → IsTrue old.in_transaction → IsTrue new.in_transaction
-  pub kept : HasCleanDisk new → IsTrue old.in_transaction → KeepsCommit old new
-  pub survives : Survives old new (λ _. ⊥)
-
-pub none_made : (s : State) (Fits : Tables → Type 0) (after : Tables → Tables)
-    → ((tables : Tables) → after tables ≡ tables) → AreMade s s Fits after
-none_made s Fits after same = record {
-  made = λ clean inside tables fits held. subst (λ (t : Tables). HasTables s.now t)
-      (sym (same tables)) held;
-  inside = λ clean inside. inside;
-  kept = λ clean inside. record { was_open = λ h. h; committed = λ _. refl };
-  survives = record {
-    clean = omega arith;
-    shield = λ h. h;
-    counts = omega arith;
-    limit = refl;
-    closes = λ _ h. inl h;
-    crash = λ _ db h. inl h;
-  };
-}
-
-module _ (a b c : State) (Fits : Tables → Type 0) (before after : Tables → Tables)
-    (so_far : AreMade a b Fits before) (survives : Survives b c (λ _. ⊥))
-    (kept : HasCleanDisk c → IsTrue b.in_transaction → KeepsCommit b c) where
-  mid : HasCleanDisk c → HasCleanDisk b
-  mid clean = omega (arith, survives.clean, clean)
-
-  pub still_kept : HasCleanDisk c → IsTrue a.in_transaction → KeepsCommit a c
-  still_kept clean inside = keeps_then a b c (so_far.kept (mid clean) inside)
-      (kept clean (so_far.inside (mid clean) inside))
-
-  pub still_survives : Survives a c (λ _. ⊥)
-  still_survives = survives_then a b c _ _ _ (λ _ db none. none) (λ _ db none. none) so_far.survives
-      survives
-
-  pub one_made : (HasCleanDisk c → IsTrue b.in_transaction → Shows b c c.now b.committed true)
-      → (HasCleanDisk c → IsTrue b.in_transaction → (tables : Tables) → Fits tables
-      → HasTables b.now (before tables) → HasTables c.now (after tables))
-      → AreMade a c Fits after
-  one_made shows made = record {
-    made = λ clean inside tables fits held. made clean (so_far.inside (mid clean) inside) tables
-        fits (so_far.made (mid clean) inside tables fits held);
-    inside = λ clean inside. (shows clean (so_far.inside (mid clean) inside)).mode;
-    kept = still_kept;
-    survives = still_survives;
-  }
 
 ranges_then : (ws : List RangeWrite) (w : RangeWrite) (rows : List RangeRow)
     → with_ranges (ws ++ w ∷ []) rows ≡ with_range w (with_ranges ws rows)

@@ -1,4 +1,5 @@
 pub mod Shown
 pub mod ConnectionState
+pub mod Steps
 pub mod Statements
 pub mod Creating

@@ -4,14 +4,14 @@ ghost use Rattle.std.specs.Prelude.{◌≡◌, ◌⊎◌, ℕ, ◌++◌, ◌∷�
 ghost use Rattle.std.specs.Prelude.{Ok, OnOk, OnErr};
 ghost use Rattle.sqlite_trees.specs.Tree.{Trees};
 ghost use Rattle.sqlite.specs.Held.{state};
-ghost use Rattle.sqlite.specs.State.{KeepsCommit, Survives, Executes};
+ghost use Rattle.sqlite.specs.State.{Executes};
 ghost use Rattle.sqlite_schema.specs.Names.{table_named};
 ghost use Rattle.s10_statements.specs.Creating.{HasOneOfTheNames, IsCreateRefusal};
 ghost use Rattle.s10_schema.specs.Schema.{no_schema, ledger_schema};
 ghost use Rattle.s10_rows.specs.Tables.{Tables, no_rows, head_row};
 ghost use Rattle.s10_statements.specs.Shown.{HasTables, StandsFor};
 ghost use Rattle.s10_statements.specs.ConnectionState.{IsQuiescent, WasSound, IsClean, IsOpen};
-ghost use Rattle.s10_statements.specs.ConnectionState.{IsInTransaction, StaysUnclean};
+ghost use Rattle.s10_statements.specs.Steps.{IsStep, EditsTables};
 
 use s10_history::Settings;
 use s10_rows::OpenFault;
@@ -34,39 +34,19 @@ pub(crate) const CLOSED: &str =
 
 // Runs a statement without parameters.
 pub(crate) fn run<S: Alter>(tx: &mut Transaction<'_, S>, sql: &str) -> Result<(), Error>
-    ensures same_reference { tx.new.conn.ghost_name ≡ tx.old.conn.ghost_name }
-    ensures runs { IsClean S.Store tx.new.conn.now → IsInTransaction S.Store tx.old.conn.now
-        → OnOk result ((count : ℕ) × Executes sql.now [] (state S.Store tx.old.conn.now)
-        (state S.Store tx.new.conn.now) (Ok count)) }
-    ensures opened { IsClean S.Store tx.new.conn.now → IsInTransaction S.Store tx.old.conn.now
-        → OnOk result (IsOpen S.Store tx.old.conn.now) }
-    ensures inside { IsClean S.Store tx.new.conn.now → IsInTransaction S.Store tx.old.conn.now
-        → OnOk result (IsInTransaction S.Store tx.new.conn.now) }
-    ensures kept { IsClean S.Store tx.new.conn.now → IsInTransaction S.Store tx.old.conn.now
-        → KeepsCommit (state S.Store tx.old.conn.now) (state S.Store tx.new.conn.now) }
-    ensures survives { Survives (state S.Store tx.old.conn.now) (state S.Store tx.new.conn.now)
-        (λ _. ⊥) }
-    ensures clean { StaysUnclean S.Store tx.old.conn.now tx.new.conn.now }
+    ensures { IsStep S.Store tx.old.conn tx.new.conn result
+        (IsOpen S.Store tx.old.conn.now × ((count : ℕ) × Executes sql.now []
+        (state S.Store tx.old.conn.now) (state S.Store tx.new.conn.now) (Ok count))) }
 {
     tx.execute(sql, &[])?;
     Ok(())
 }
 
 fn create_each_table<S: Alter>(tx: &mut Transaction<'_, S>) -> Result<(), Error>
-    ensures same_reference { tx.new.conn.ghost_name ≡ tx.old.conn.ghost_name }
-    ensures made { IsClean S.Store tx.new.conn.now → IsInTransaction S.Store tx.old.conn.now
-        → (state S.Store tx.old.conn.now).now.schema ≡ no_schema
-        → OnOk result (HasTables (state S.Store tx.new.conn.now).now no_rows) }
-    ensures alone { IsClean S.Store tx.new.conn.now → IsInTransaction S.Store tx.old.conn.now
-        → (state S.Store tx.old.conn.now).now.schema ≡ no_schema
-        → OnOk result ((state S.Store tx.new.conn.now).now.schema ≡ ledger_schema) }
-    ensures inside { IsClean S.Store tx.new.conn.now → IsInTransaction S.Store tx.old.conn.now
-        → OnOk result (IsInTransaction S.Store tx.new.conn.now) }
-    ensures kept { IsClean S.Store tx.new.conn.now → IsInTransaction S.Store tx.old.conn.now
-        → KeepsCommit (state S.Store tx.old.conn.now) (state S.Store tx.new.conn.now) }
-    ensures survives { Survives (state S.Store tx.old.conn.now) (state S.Store tx.new.conn.now)
-        (λ _. ⊥) }
-    ensures clean { StaysUnclean S.Store tx.old.conn.now tx.new.conn.now }
+    ensures { IsStep S.Store tx.old.conn tx.new.conn result
+        ((state S.Store tx.old.conn.now).now.schema ≡ no_schema
+        → HasTables (state S.Store tx.new.conn.now).now no_rows
+        × ((state S.Store tx.new.conn.now).now.schema ≡ ledger_schema)) }
 {
     run(tx, HEAD)?;
     run(tx, CALLS)?;
@@ -77,21 +57,12 @@ fn create_each_table<S: Alter>(tx: &mut Transaction<'_, S>) -> Result<(), Error>
 
 // Inserts the row of the settings.
 fn insert_head<S: Alter>(tx: &mut Transaction<'_, S>, settings: Settings) -> Result<(), Error>
-    ensures same_reference { tx.new.conn.ghost_name ≡ tx.old.conn.ghost_name }
-    ensures made { IsClean S.Store tx.new.conn.now → IsInTransaction S.Store tx.old.conn.now
-        → OnOk result ((tables : Tables) → HasTables (state S.Store tx.old.conn.now).now tables
-        → HasTables (state S.Store tx.new.conn.now).now
-        (record tables { heads = tables.heads ++ head_row settings ∷ [] })) }
-    ensures alone { IsClean S.Store tx.new.conn.now → IsInTransaction S.Store tx.old.conn.now
-        → OnOk result ((tables : Tables) → HasTables (state S.Store tx.old.conn.now).now tables
-        → (state S.Store tx.new.conn.now).now.schema ≡ (state S.Store tx.old.conn.now).now.schema) }
-    ensures inside { IsClean S.Store tx.new.conn.now → IsInTransaction S.Store tx.old.conn.now
-        → OnOk result (IsInTransaction S.Store tx.new.conn.now) }
-    ensures kept { IsClean S.Store tx.new.conn.now → IsInTransaction S.Store tx.old.conn.now
-        → KeepsCommit (state S.Store tx.old.conn.now) (state S.Store tx.new.conn.now) }
-    ensures survives { Survives (state S.Store tx.old.conn.now) (state S.Store tx.new.conn.now)
-        (λ _. ⊥) }
-    ensures clean { StaysUnclean S.Store tx.old.conn.now tx.new.conn.now }
+    ensures { IsStep S.Store tx.old.conn tx.new.conn result
+        (EditsTables S.Store tx.old.conn tx.new.conn (λ tables. record tables {
+          heads = tables.heads ++ head_row settings ∷ [];
+        }) × ((tables : Tables) → HasTables (state S.Store tx.old.conn.now).now tables
+        → (state S.Store tx.new.conn.now).now.schema
+        ≡ (state S.Store tx.old.conn.now).now.schema)) }
 {
     let interval = settings.interval();
     let limit = settings.limit();

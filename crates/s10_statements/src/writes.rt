@@ -1,15 +1,14 @@
 //! Writes the rows of kept calls.
 
-ghost use Rattle.std.specs.Prelude.{◌≡◌, ◌≢◌, ◌≤◌, ◌⊎◌, ◌++◌, ◌∷◌, [], pos, true, List, length};
+ghost use Rattle.std.specs.Prelude.{◌≡◌, ◌≢◌, ◌≤◌, ◌⊎◌, ◌++◌, ◌∷◌, [], pos, List, length};
 ghost use Rattle.std.specs.Prelude.{filter, option_to_list, OnOk, OnErr};
 ghost use Rattle.sqlite_trees.specs.Tree.{Trees};
 ghost use Rattle.sqlite.specs.Held.{state};
-ghost use Rattle.sqlite.specs.State.{Shows, KeepsCommit, Survives};
 ghost use Rattle.s10_rows.specs.CallRow.{StoredCall};
 ghost use Rattle.s10_rows.specs.Tables.{Tables, closing};
 ghost use Rattle.s10_statements.specs.Shown.{HasTables};
-ghost use Rattle.s10_statements.specs.ConnectionState.{IsQuiescent, IsClean, IsOpen};
-ghost use Rattle.s10_statements.specs.ConnectionState.{IsInTransaction, StaysUnclean};
+ghost use Rattle.s10_statements.specs.ConnectionState.{IsQuiescent, IsClean, IsOpen, StaysUnclean};
+ghost use Rattle.s10_statements.specs.Steps.{IsStep, EditsTables, EditsFittingTables};
 ghost use Rattle.s10_rows.specs.RowWrites.{FindAtMostOne, is_at, row_of, with_range, with_ranges};
 ghost use Rattle.s10_rows.specs.RowWrites.{with_serial, with_serials};
 ghost use Rattle.s10_rows.specs.CallWrite.{AreWritten, with_call};
@@ -24,26 +23,17 @@ fn insert_call<S: Alter>(
     entry: &Entry,
     reply: &[u8],
 ) -> Result<(), Error>
-    ensures same_reference { tx.new.conn.ghost_name ≡ tx.old.conn.ghost_name }
-    ensures made { let row : StoredCall = record {
+    ensures { let row : StoredCall = record {
       arrival = pos arrival;
       customer = pos entry.now.request.customer;
       number = pos entry.now.request.number;
-      day =
-          pos entry.now.day;
+      day = pos entry.now.day;
       reply = reply.now;
     } in
-        IsClean S.Store tx.new.conn.now → IsInTransaction S.Store tx.old.conn.now
-        → OnOk result ((tables : Tables) → HasTables (state S.Store tx.old.conn.now).now tables
-        → HasTables (state S.Store tx.new.conn.now).now
-        (record tables { calls = tables.calls ++ row ∷ [] })) }
-    ensures inside { IsClean S.Store tx.new.conn.now → IsInTransaction S.Store tx.old.conn.now
-        → OnOk result (Shows (state S.Store tx.old.conn.now) (state S.Store tx.new.conn.now)
-        (state S.Store tx.new.conn.now).now (state S.Store tx.old.conn.now).committed true) }
-    ensures kept { IsClean S.Store tx.new.conn.now → IsInTransaction S.Store tx.old.conn.now
-        → KeepsCommit (state S.Store tx.old.conn.now) (state S.Store tx.new.conn.now) }
-    ensures survives { Survives (state S.Store tx.old.conn.now) (state S.Store tx.new.conn.now)
-        (λ _. ⊥) }
+        IsStep S.Store tx.old.conn tx.new.conn result (IsOpen S.Store tx.old.conn.now
+        × EditsTables S.Store tx.old.conn tx.new.conn (λ tables. record tables {
+          calls = tables.calls ++ row ∷ [];
+        })) }
 {
     tx.execute(
         "INSERT INTO calls (arrival, customer, number, day, reply) VALUES (?1, ?2, ?3, ?4, ?5)",
@@ -59,18 +49,10 @@ fn insert_call<S: Alter>(
 }
 
 fn insert_range<S: Alter>(tx: &mut Transaction<'_, S>, range: &RangeRow) -> Result<(), Error>
-    ensures same_reference { tx.new.conn.ghost_name ≡ tx.old.conn.ghost_name }
-    ensures made { IsClean S.Store tx.new.conn.now → IsInTransaction S.Store tx.old.conn.now
-        → OnOk result ((tables : Tables) → HasTables (state S.Store tx.old.conn.now).now tables
-        → HasTables (state S.Store tx.new.conn.now).now
-        (record tables { ranges = with_range (RangeWrite.New range.now) tables.ranges })) }
-    ensures inside { IsClean S.Store tx.new.conn.now → IsInTransaction S.Store tx.old.conn.now
-        → OnOk result (Shows (state S.Store tx.old.conn.now) (state S.Store tx.new.conn.now)
-        (state S.Store tx.new.conn.now).now (state S.Store tx.old.conn.now).committed true) }
-    ensures kept { IsClean S.Store tx.new.conn.now → IsInTransaction S.Store tx.old.conn.now
-        → KeepsCommit (state S.Store tx.old.conn.now) (state S.Store tx.new.conn.now) }
-    ensures survives { Survives (state S.Store tx.old.conn.now) (state S.Store tx.new.conn.now)
-        (λ _. ⊥) }
+    ensures { IsStep S.Store tx.old.conn tx.new.conn result
+        (EditsTables S.Store tx.old.conn tx.new.conn (λ tables. record tables {
+          ranges = with_range (RangeWrite.New range.now) tables.ranges;
+        })) }
 {
     let RangeRow {
         num,
@@ -89,18 +71,10 @@ fn insert_range<S: Alter>(tx: &mut Transaction<'_, S>, range: &RangeRow) -> Resu
 
 // Sets the mark of the range with the number `num`. Fails unless exactly one row changes.
 fn update_mark<S: Alter>(tx: &mut Transaction<'_, S>, num: i64, mark: i64) -> Result<(), Error>
-    ensures same_reference { tx.new.conn.ghost_name ≡ tx.old.conn.ghost_name }
-    ensures made { IsClean S.Store tx.new.conn.now → IsInTransaction S.Store tx.old.conn.now
-        → OnOk result ((tables : Tables) → HasTables (state S.Store tx.old.conn.now).now tables
-        → HasTables (state S.Store tx.new.conn.now).now
-        (record tables { ranges = with_range (RangeWrite.Mark num mark) tables.ranges })) }
-    ensures inside { IsClean S.Store tx.new.conn.now → IsInTransaction S.Store tx.old.conn.now
-        → OnOk result (Shows (state S.Store tx.old.conn.now) (state S.Store tx.new.conn.now)
-        (state S.Store tx.new.conn.now).now (state S.Store tx.old.conn.now).committed true) }
-    ensures kept { IsClean S.Store tx.new.conn.now → IsInTransaction S.Store tx.old.conn.now
-        → KeepsCommit (state S.Store tx.old.conn.now) (state S.Store tx.new.conn.now) }
-    ensures survives { Survives (state S.Store tx.old.conn.now) (state S.Store tx.new.conn.now)
-        (λ _. ⊥) }
+    ensures { IsStep S.Store tx.old.conn tx.new.conn result
+        (EditsTables S.Store tx.old.conn tx.new.conn (λ tables. record tables {
+          ranges = with_range (RangeWrite.Mark num mark) tables.ranges;
+        })) }
 {
     let changed = tx.execute(
         "UPDATE ranges SET mark = ?2 WHERE num = ?1",
@@ -114,18 +88,10 @@ fn update_mark<S: Alter>(tx: &mut Transaction<'_, S>, num: i64, mark: i64) -> Re
 }
 
 fn apply_range_write<S: Alter>(tx: &mut Transaction<'_, S>, write: &RangeWrite) -> Result<(), Error>
-    ensures same_reference { tx.new.conn.ghost_name ≡ tx.old.conn.ghost_name }
-    ensures made { IsClean S.Store tx.new.conn.now → IsInTransaction S.Store tx.old.conn.now
-        → OnOk result ((tables : Tables) → HasTables (state S.Store tx.old.conn.now).now tables
-        → HasTables (state S.Store tx.new.conn.now).now
-        (record tables { ranges = with_range write.now tables.ranges })) }
-    ensures inside { IsClean S.Store tx.new.conn.now → IsInTransaction S.Store tx.old.conn.now
-        → OnOk result (Shows (state S.Store tx.old.conn.now) (state S.Store tx.new.conn.now)
-        (state S.Store tx.new.conn.now).now (state S.Store tx.old.conn.now).committed true) }
-    ensures kept { IsClean S.Store tx.new.conn.now → IsInTransaction S.Store tx.old.conn.now
-        → KeepsCommit (state S.Store tx.old.conn.now) (state S.Store tx.new.conn.now) }
-    ensures survives { Survives (state S.Store tx.old.conn.now) (state S.Store tx.new.conn.now)
-        (λ _. ⊥) }
+    ensures { IsStep S.Store tx.old.conn tx.new.conn result
+        (EditsTables S.Store tx.old.conn tx.new.conn (λ tables. record tables {
+          ranges = with_range write.now tables.ranges;
+        })) }
 {
     match *write {
         RangeWrite::New(row) => insert_range(tx, &row),
@@ -134,18 +100,10 @@ fn apply_range_write<S: Alter>(tx: &mut Transaction<'_, S>, write: &RangeWrite) 
 }
 
 fn insert_serial<S: Alter>(tx: &mut Transaction<'_, S>, serial: &SerialRow) -> Result<(), Error>
-    ensures same_reference { tx.new.conn.ghost_name ≡ tx.old.conn.ghost_name }
-    ensures made { IsClean S.Store tx.new.conn.now → IsInTransaction S.Store tx.old.conn.now
-        → OnOk result ((tables : Tables) → HasTables (state S.Store tx.old.conn.now).now tables
-        → HasTables (state S.Store tx.new.conn.now).now
-        (record tables { serials = with_serial (SerialWrite.New serial.now) tables.serials })) }
-    ensures inside { IsClean S.Store tx.new.conn.now → IsInTransaction S.Store tx.old.conn.now
-        → OnOk result (Shows (state S.Store tx.old.conn.now) (state S.Store tx.new.conn.now)
-        (state S.Store tx.new.conn.now).now (state S.Store tx.old.conn.now).committed true) }
-    ensures kept { IsClean S.Store tx.new.conn.now → IsInTransaction S.Store tx.old.conn.now
-        → KeepsCommit (state S.Store tx.old.conn.now) (state S.Store tx.new.conn.now) }
-    ensures survives { Survives (state S.Store tx.old.conn.now) (state S.Store tx.new.conn.now)
-        (λ _. ⊥) }
+    ensures { IsStep S.Store tx.old.conn tx.new.conn result
+        (EditsTables S.Store tx.old.conn tx.new.conn (λ tables. record tables {
+          serials = with_serial (SerialWrite.New serial.now) tables.serials;
+        })) }
 {
     let SerialRow {
         pair,
@@ -165,21 +123,11 @@ fn insert_serial<S: Alter>(tx: &mut Transaction<'_, S>, serial: &SerialRow) -> R
 
 // Inserts the row, or updates the row of its identifier. Fails unless exactly one row changes.
 fn upsert_serial<S: Alter>(tx: &mut Transaction<'_, S>, serial: &SerialRow) -> Result<(), Error>
-    ensures same_reference { tx.new.conn.ghost_name ≡ tx.old.conn.ghost_name }
-    ensures made { IsClean S.Store tx.new.conn.now → IsInTransaction S.Store tx.old.conn.now
-        → OnOk result ((tables : Tables) → HasTables (state S.Store tx.old.conn.now).now tables
-        → length (filter (is_at serial.now.pair serial.now.serial) tables.serials) ≤ 1
-        → HasTables (state S.Store tx.new.conn.now).now
-        (record tables {
+    ensures { IsStep S.Store tx.old.conn tx.new.conn result
+        (EditsFittingTables S.Store tx.old.conn tx.new.conn (λ tables. length (filter (is_at serial.now.pair serial.now.serial) tables.serials) ≤ 1)
+        (λ tables. record tables {
           serials = with_serial (SerialWrite.Again serial.now) tables.serials;
         })) }
-    ensures inside { IsClean S.Store tx.new.conn.now → IsInTransaction S.Store tx.old.conn.now
-        → OnOk result (Shows (state S.Store tx.old.conn.now) (state S.Store tx.new.conn.now)
-        (state S.Store tx.new.conn.now).now (state S.Store tx.old.conn.now).committed true) }
-    ensures kept { IsClean S.Store tx.new.conn.now → IsInTransaction S.Store tx.old.conn.now
-        → KeepsCommit (state S.Store tx.old.conn.now) (state S.Store tx.new.conn.now) }
-    ensures survives { Survives (state S.Store tx.old.conn.now) (state S.Store tx.new.conn.now)
-        (λ _. ⊥) }
 {
     let SerialRow {
         pair,
@@ -205,19 +153,11 @@ fn apply_serial_write<S: Alter>(
     tx: &mut Transaction<'_, S>,
     write: &SerialWrite,
 ) -> Result<(), Error>
-    ensures same_reference { tx.new.conn.ghost_name ≡ tx.old.conn.ghost_name }
-    ensures made { IsClean S.Store tx.new.conn.now → IsInTransaction S.Store tx.old.conn.now
-        → OnOk result ((tables : Tables) → HasTables (state S.Store tx.old.conn.now).now tables
-        → length (filter (is_at (row_of write.now).pair (row_of write.now).serial) tables.serials)
-        ≤ 1 → HasTables (state S.Store tx.new.conn.now).now
-        (record tables { serials = with_serial write.now tables.serials })) }
-    ensures inside { IsClean S.Store tx.new.conn.now → IsInTransaction S.Store tx.old.conn.now
-        → OnOk result (Shows (state S.Store tx.old.conn.now) (state S.Store tx.new.conn.now)
-        (state S.Store tx.new.conn.now).now (state S.Store tx.old.conn.now).committed true) }
-    ensures kept { IsClean S.Store tx.new.conn.now → IsInTransaction S.Store tx.old.conn.now
-        → KeepsCommit (state S.Store tx.old.conn.now) (state S.Store tx.new.conn.now) }
-    ensures survives { Survives (state S.Store tx.old.conn.now) (state S.Store tx.new.conn.now)
-        (λ _. ⊥) }
+    ensures { IsStep S.Store tx.old.conn tx.new.conn result
+        (EditsFittingTables S.Store tx.old.conn tx.new.conn (λ tables. length (filter (is_at (row_of write.now).pair (row_of write.now).serial) tables.serials) ≤ 1)
+        (λ tables. record tables {
+          serials = with_serial write.now tables.serials;
+        })) }
 {
     match *write {
         SerialWrite::New(row) => insert_serial(tx, &row),
@@ -230,18 +170,10 @@ fn apply_range_writes<S: Alter>(
     tx: &mut Transaction<'_, S>,
     ranges: &[RangeWrite],
 ) -> Result<(), Error>
-    ensures same_reference { tx.new.conn.ghost_name ≡ tx.old.conn.ghost_name }
-    ensures made { IsClean S.Store tx.new.conn.now → IsInTransaction S.Store tx.old.conn.now
-        → OnOk result ((tables : Tables) → HasTables (state S.Store tx.old.conn.now).now tables
-        → HasTables (state S.Store tx.new.conn.now).now
-        (record tables { ranges = with_ranges ranges.now tables.ranges })) }
-    ensures inside { IsClean S.Store tx.new.conn.now → IsInTransaction S.Store tx.old.conn.now
-        → OnOk result (IsInTransaction S.Store tx.new.conn.now) }
-    ensures kept { IsClean S.Store tx.new.conn.now → IsInTransaction S.Store tx.old.conn.now
-        → KeepsCommit (state S.Store tx.old.conn.now) (state S.Store tx.new.conn.now) }
-    ensures survives { Survives (state S.Store tx.old.conn.now) (state S.Store tx.new.conn.now)
-        (λ _. ⊥) }
-    ensures clean { StaysUnclean S.Store tx.old.conn.now tx.new.conn.now }
+    ensures { IsStep S.Store tx.old.conn tx.new.conn result
+        (EditsTables S.Store tx.old.conn tx.new.conn (λ tables. record tables {
+          ranges = with_ranges ranges.now tables.ranges;
+        })) }
 {
     for write in ranges {
         apply_range_write(tx, write)?;
@@ -254,18 +186,11 @@ fn apply_serial_writes<S: Alter>(
     tx: &mut Transaction<'_, S>,
     serials: &[SerialWrite],
 ) -> Result<(), Error>
-    ensures same_reference { tx.new.conn.ghost_name ≡ tx.old.conn.ghost_name }
-    ensures made { IsClean S.Store tx.new.conn.now → IsInTransaction S.Store tx.old.conn.now
-        → OnOk result ((tables : Tables) → HasTables (state S.Store tx.old.conn.now).now tables
-        → FindAtMostOne serials.now tables.serials → HasTables (state S.Store tx.new.conn.now).now
-        (record tables { serials = with_serials serials.now tables.serials })) }
-    ensures inside { IsClean S.Store tx.new.conn.now → IsInTransaction S.Store tx.old.conn.now
-        → OnOk result (IsInTransaction S.Store tx.new.conn.now) }
-    ensures kept { IsClean S.Store tx.new.conn.now → IsInTransaction S.Store tx.old.conn.now
-        → KeepsCommit (state S.Store tx.old.conn.now) (state S.Store tx.new.conn.now) }
-    ensures survives { Survives (state S.Store tx.old.conn.now) (state S.Store tx.new.conn.now)
-        (λ _. ⊥) }
-    ensures clean { StaysUnclean S.Store tx.old.conn.now tx.new.conn.now }
+    ensures { IsStep S.Store tx.old.conn tx.new.conn result
+        (EditsFittingTables S.Store tx.old.conn tx.new.conn (λ tables. FindAtMostOne serials.now tables.serials)
+        (λ tables. record tables {
+          serials = with_serials serials.now tables.serials;
+        })) }
 {
     for write in serials {
         apply_serial_write(tx, write)?;
@@ -274,17 +199,10 @@ fn apply_serial_writes<S: Alter>(
 }
 
 fn insert_closed<S: Alter>(tx: &mut Transaction<'_, S>, closed: &ClosedRow) -> Result<(), Error>
-    ensures same_reference { tx.new.conn.ghost_name ≡ tx.old.conn.ghost_name }
-    ensures made { IsClean S.Store tx.new.conn.now → IsInTransaction S.Store tx.old.conn.now
-        → OnOk result ((tables : Tables) → HasTables (state S.Store tx.old.conn.now).now tables
-        → HasTables (state S.Store tx.new.conn.now).now
-        (record tables { closed = tables.closed ++ closed.now ∷ [] })) }
-    ensures inside { IsClean S.Store tx.new.conn.now → IsInTransaction S.Store tx.old.conn.now
-        → OnOk result (IsInTransaction S.Store tx.new.conn.now) }
-    ensures kept { IsClean S.Store tx.new.conn.now → IsInTransaction S.Store tx.old.conn.now
-        → KeepsCommit (state S.Store tx.old.conn.now) (state S.Store tx.new.conn.now) }
-    ensures survives { Survives (state S.Store tx.old.conn.now) (state S.Store tx.new.conn.now)
-        (λ _. ⊥) }
+    ensures { IsStep S.Store tx.old.conn tx.new.conn result
+        (EditsTables S.Store tx.old.conn tx.new.conn (λ tables. record tables {
+          closed = tables.closed ++ closed.now ∷ [];
+        })) }
 {
     let ClosedRow { num, arrival } = *closed;
     tx.execute(
@@ -300,21 +218,11 @@ fn insert_if_closed<S: Alter>(
     arrival: u32,
     entry: &Entry,
 ) -> Result<(), Error>
-    ensures same_reference { tx.new.conn.ghost_name ≡ tx.old.conn.ghost_name }
-    ensures made { IsClean S.Store tx.new.conn.now → IsInTransaction S.Store tx.old.conn.now
-        → OnOk result ((tables : Tables) → HasTables (state S.Store tx.old.conn.now).now tables
-        → HasTables (state S.Store tx.new.conn.now).now
-        (record tables {
+    ensures { IsStep S.Store tx.old.conn tx.new.conn result
+        (EditsTables S.Store tx.old.conn tx.new.conn (λ tables. record tables {
           closed = tables.closed ++ option_to_list
               (closing arrival entry.now.request.body entry.now.outcome);
         })) }
-    ensures inside { IsClean S.Store tx.new.conn.now → IsInTransaction S.Store tx.old.conn.now
-        → OnOk result (IsInTransaction S.Store tx.new.conn.now) }
-    ensures kept { IsClean S.Store tx.new.conn.now → IsInTransaction S.Store tx.old.conn.now
-        → KeepsCommit (state S.Store tx.old.conn.now) (state S.Store tx.new.conn.now) }
-    ensures survives { Survives (state S.Store tx.old.conn.now) (state S.Store tx.new.conn.now)
-        (λ _. ⊥) }
-    ensures clean { StaysUnclean S.Store tx.old.conn.now tx.new.conn.now }
 {
     match ClosedRow::made_by(arrival, entry) {
         Some(row) => insert_closed(tx, &row),
@@ -327,19 +235,9 @@ fn insert_call_and_writes<S: Alter>(
     tx: &mut Transaction<'_, S>,
     write: &CallWrite,
 ) -> Result<(), Error>
-    ensures same_reference { tx.new.conn.ghost_name ≡ tx.old.conn.ghost_name }
-    ensures made { IsClean S.Store tx.new.conn.now → IsInTransaction S.Store tx.old.conn.now
-        → OnOk result ((tables : Tables) → HasTables (state S.Store tx.old.conn.now).now tables
-        → FindAtMostOne write.now.serials.items tables.serials
-        → HasTables (state S.Store tx.new.conn.now).now (with_call write.now tables)) }
-    ensures was_open { IsClean S.Store tx.new.conn.now → IsInTransaction S.Store tx.old.conn.now
-        → OnOk result (IsOpen S.Store tx.old.conn.now) }
-    ensures inside { IsClean S.Store tx.new.conn.now → IsInTransaction S.Store tx.old.conn.now
-        → OnOk result (IsInTransaction S.Store tx.new.conn.now) }
-    ensures kept { IsClean S.Store tx.new.conn.now → IsInTransaction S.Store tx.old.conn.now
-        → KeepsCommit (state S.Store tx.old.conn.now) (state S.Store tx.new.conn.now) }
-    ensures survives { Survives (state S.Store tx.old.conn.now) (state S.Store tx.new.conn.now)
-        (λ _. ⊥) }
+    ensures { IsStep S.Store tx.old.conn tx.new.conn result (IsOpen S.Store tx.old.conn.now
+        × EditsFittingTables S.Store tx.old.conn tx.new.conn
+        (λ tables. FindAtMostOne write.now.serials.items tables.serials) (with_call write.now)) }
 {
     insert_call(tx, write.arrival, &write.entry, write.reply.bytes())?;
     apply_range_writes(tx, &write.ranges)?;
@@ -349,20 +247,10 @@ fn insert_call_and_writes<S: Alter>(
 
 // Writes the calls in their order.
 fn insert_calls<S: Alter>(tx: &mut Transaction<'_, S>, writes: &[CallWrite]) -> Result<(), Error>
-    ensures same_reference { tx.new.conn.ghost_name ≡ tx.old.conn.ghost_name }
-    ensures made { IsClean S.Store tx.new.conn.now → IsInTransaction S.Store tx.old.conn.now
-        → OnOk result ((before after : Tables) → AreWritten writes.now before after
+    ensures { IsStep S.Store tx.old.conn tx.new.conn result ((writes.now ≢ [] → IsOpen S.Store tx.old.conn.now)
+        × ((before after : Tables) → AreWritten writes.now before after
         → HasTables (state S.Store tx.old.conn.now).now before
-        → HasTables (state S.Store tx.new.conn.now).now after) }
-    ensures was_open { IsClean S.Store tx.new.conn.now → IsInTransaction S.Store tx.old.conn.now
-        → OnOk result (writes.now ≢ [] → IsOpen S.Store tx.old.conn.now) }
-    ensures inside { IsClean S.Store tx.new.conn.now → IsInTransaction S.Store tx.old.conn.now
-        → OnOk result (IsInTransaction S.Store tx.new.conn.now) }
-    ensures kept { IsClean S.Store tx.new.conn.now → IsInTransaction S.Store tx.old.conn.now
-        → KeepsCommit (state S.Store tx.old.conn.now) (state S.Store tx.new.conn.now) }
-    ensures survives { Survives (state S.Store tx.old.conn.now) (state S.Store tx.new.conn.now)
-        (λ _. ⊥) }
-    ensures clean { StaysUnclean S.Store tx.old.conn.now tx.new.conn.now }
+        → HasTables (state S.Store tx.new.conn.now).now after)) }
 {
     for write in writes {
         insert_call_and_writes(tx, write)?;

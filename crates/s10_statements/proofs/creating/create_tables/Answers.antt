@@ -1,171 +1,87 @@
-use Rattle.std.proofs.Common.{◌≡◌, inl, arith, sym, subst, refl, ◌∙◌, [], IsTrue}
-use Rattle.std.proofs.lemmas.Result.{IfOk-weaker}
+use Rattle.std.proofs.Common.{◌≡◌, arith, [], Ok, not, ap, sym, subst, ◌∙◌}
+use Rattle.std.proofs.lemmas.Result.{on_ok_weaker}
 use Rattle.sqlite.specs.Effect.{Database}
-use Rattle.sqlite.specs.State.{HasCleanDisk}
 use Rattle.sqlite.specs.Held.{state}
 use Rattle.s10_rows.specs.Tables.{no_rows, tables_of}
-use Rattle.s10_schema.specs.Schema.{ledger_schema}
+use Rattle.s10_schema.specs.Schema.{no_schema, ledger_schema}
 use Rattle.s10_statements.specs.Shown.{StandsFor}
-use Rattle.s10_statements.proofs.CrashLemmas.{either, spared, tables_left}
+use Rattle.s10_statements.specs.Steps.{IsStep}
+use Rattle.s10_statements.proofs.CrashLemmas.{either, tables_left}
 use Rattle.s10_statements.proofs.MakeLemmas.{is_ledger}
-use Rattle.s10_statements.proofs.StepLemmas.{Passed, clean_then, inside_then, kept_then}
-use Rattle.s10_statements.proofs.StepLemmas.{survives_both}
-use Rattle.s10_statements.proofs.TransactionLemmas.{all_clean, ended_open, ended_settled}
+use Rattle.s10_statements.proofs.StepLemmas.{step_then}
+use Rattle.s10_statements.proofs.TransactionLemmas.{committed, undone}
 use Rattle.s10_statements.proofs.creating.create_tables.Goals as goal
 
-pub returns-clause-all : goal.returns-clause-all
-returns-clause-all g c clean none =
+pub returns : goal.returns
+returns g c =
     let begun = c.transaction-tx.ensures.begun in
-    let end = c.commit.new.self.0 in
-    let same = c.conn-2-1.given.1
+    let mid = c.insert_head.new.tx.conn in
+    let step : IsStep g.S.Store c.transaction-tx.result.conn mid
+    (Ok c.in_ok-insert_head.field-0)
+    ((state g.S.Store c.transaction-tx.result.conn.now).now.schema ≡ no_schema
+    → StandsFor (state g.S.Store mid.now).now [] c.args.settings
+    × ((state g.S.Store mid.now).now.schema ≡ ledger_schema)) =
+    step_then c.in_ok-create_each_table.ensures c.in_ok-insert_head.ensures (λ made row none.
+    let it = made none in (row.0 no_rows it.0, row.1 no_rows it.0 ∙ it.1)) in
+    let it = committed {old = c.args.conn.now} {end = c.commit.new.self.0} begun step c.commit.ensures.survives
+    c.commit.ensures.ended c.commit.ensures.ok c.commit.ensures.err in
+    rw (c.conn-2-1.given.1
     (sym (c.insert_head.ensures.same_reference ∙ c.create_each_table.ensures.same_reference
-    ∙ c.transaction-tx.ensures.same_reference)) in
-    let late : HasCleanDisk (state g.S.Store end) = rw same at clean in
-    let second : HasCleanDisk (state g.S.Store c.insert_head.new.tx.conn.now) =
-    omega (arith, c.commit.ensures.survives.clean) in
-    let first : HasCleanDisk (state g.S.Store c.create_each_table.new.tx.conn.now) =
-    omega (arith, c.insert_head.ensures.clean) in
-    let inside : IsTrue (state g.S.Store c.transaction-tx.result.conn.now).in_transaction =
-    rw begun refl in
-    let tables = c.in_ok-create_each_table.ensures.made first inside (rw begun none) in
-    let in_head = c.in_ok-create_each_table.ensures.inside first inside in
-    let out = IfOk-weaker c.commit.result _ _
-    (λ _ h. subst (λ (d : Database). StandsFor d [] c.args.settings) (sym h.1.now_is)
-    (c.in_ok-insert_head.ensures.made second in_head no_rows tables))
-    (c.commit.ensures.ok late) in
-    rw same out
+    ∙ c.transaction-tx.ensures.same_reference)))
+    (record {
+      settled = it.settled;
+      was = λ clean. (omega (arith, it.clean, clean), it.was_open clean);
+      opened = it.opened;
+      all = λ clean none. on_ok_weaker c.commit.result (λ out. subst
+          (λ (d : Database). StandsFor d [] c.args.settings) (sym out.0)
+          (out.1 (rw begun none)).0) (it.done clean);
+      alone = λ clean none. on_ok_weaker c.commit.result (λ out. subst
+          (λ (d : Database). d.schema ≡ ledger_schema) (sym out.0) (out.1 (rw begun none)).1)
+          (it.done clean);
+      none = it.none (λ clean opened. sym (c.is_autocommit.ensures.settled
+          (c.is_autocommit.ensures.value ∙ ap not c.requires.idle) opened));
+      crash = λ clean none db left. either (it.crash clean db left) (λ same. same) (λ out.
+          tables_left (state g.S.Store mid.now).now ledger_schema db (tables_of [] c.args.settings)
+          is_ledger out.0 (out.1 (rw begun none)).0);
+    })
 
-pub returns-clause-alone : goal.returns-clause-alone
-returns-clause-alone g c clean none =
-    let begun = c.transaction-tx.ensures.begun in
-    let end = c.commit.new.self.0 in
-    let same = c.conn-2-1.given.1
-    (sym (c.insert_head.ensures.same_reference ∙ c.create_each_table.ensures.same_reference
-    ∙ c.transaction-tx.ensures.same_reference)) in
-    let late : HasCleanDisk (state g.S.Store end) = rw same at clean in
-    let second : HasCleanDisk (state g.S.Store c.insert_head.new.tx.conn.now) =
-    omega (arith, c.commit.ensures.survives.clean) in
-    let first : HasCleanDisk (state g.S.Store c.create_each_table.new.tx.conn.now) =
-    omega (arith, c.insert_head.ensures.clean) in
-    let inside : IsTrue (state g.S.Store c.transaction-tx.result.conn.now).in_transaction =
-    rw begun refl in
-    let tables = c.in_ok-create_each_table.ensures.made first inside (rw begun none) in
-    let in_head = c.in_ok-create_each_table.ensures.inside first inside in
-    let alone = c.in_ok-insert_head.ensures.alone second in_head no_rows tables
-    ∙ c.in_ok-create_each_table.ensures.alone first inside (rw begun none) in
-    let out = IfOk-weaker c.commit.result _ _
-    (λ _ h. subst (λ (d : Database). d.schema ≡ ledger_schema) (sym h.1.now_is) alone)
-    (c.commit.ensures.ok late) in
-    rw same out
+pub returns-in_err-create_each_table : goal.returns-in_err-create_each_table
+returns-in_err-create_each_table g c =
+    let it = undone {old = c.args.conn.now} {end = c.drop-tx.new.self.0} _
+    c.transaction-tx.ensures.begun c.create_each_table.ensures c.from_residual.ensures.1
+    c.drop-tx.ensures.ended c.drop-tx.ensures.undone c.drop-tx.ensures.survives in
+    rw (c.conn-1.given.1
+    (sym (c.create_each_table.ensures.same_reference ∙ c.transaction-tx.ensures.same_reference)))
+    (record {
+      settled = it.settled;
+      was = λ clean. (omega (arith, it.clean, clean), it.was_open clean);
+      opened = it.opened;
+      all = λ clean none. on_ok_weaker c.from_residual.result (λ out. absurd out.1) (it.done clean);
+      alone = λ clean none. on_ok_weaker c.from_residual.result (λ out. absurd out.1)
+          (it.done clean);
+      none = it.none (λ clean opened. sym (c.is_autocommit.ensures.settled
+          (c.is_autocommit.ensures.value ∙ ap not c.requires.idle) opened));
+      crash = λ clean none db left. either (it.crash clean db left) (λ same. same)
+          (λ out. absurd out.1);
+    })
 
-pub returns-clause-settled : goal.returns-clause-settled
-returns-clause-settled g c =
-    let same = c.conn-2-1.given.1
-    (sym (c.insert_head.ensures.same_reference ∙ c.create_each_table.ensures.same_reference
-    ∙ c.transaction-tx.ensures.same_reference)) in
-    let made : Passed (state g.S.Store c.transaction-tx.result.conn.now)
-    (state g.S.Store c.create_each_table.new.tx.conn.now) =
-    record {
-      clean = c.create_each_table.ensures.clean;
-      inside = c.in_ok-create_each_table.ensures.inside;
-      kept =
-          c.create_each_table.ensures.kept;
-    } in
-    let stays = clean_then (state g.S.Store c.insert_head.new.tx.conn.now) made
-    c.insert_head.ensures.clean in
-    let kept = kept_then (state g.S.Store c.insert_head.new.tx.conn.now) made
-    c.insert_head.ensures.clean c.insert_head.ensures.kept in
-    rw same (ended_settled g.S.Store c.args.conn.now c.transaction-tx.result.conn.now
-    c.insert_head.new.tx.conn.now c.commit.new.self.0 c.transaction-tx.ensures.begun stays kept
-    c.commit.ensures.survives.clean c.commit.result c.commit.ensures.ok c.commit.ensures.err
-    c.commit.ensures.ended
-    (λ clean inside. c.in_ok-insert_head.ensures.inside clean
-    (inside_then (state g.S.Store c.insert_head.new.tx.conn.now) made
-    c.insert_head.ensures.clean clean inside)))
-
-pub returns-clause-opened : goal.returns-clause-opened
-returns-clause-opened g c =
-    let same = c.conn-2-1.given.1
-    (sym (c.insert_head.ensures.same_reference ∙ c.create_each_table.ensures.same_reference
-    ∙ c.transaction-tx.ensures.same_reference)) in
-    rw same (λ clean. IfOk-weaker c.commit.result _ _ (λ _ h. h.1.is_open)
-    (c.commit.ensures.ok clean))
-
-pub returns-clause-was : goal.returns-clause-was
-returns-clause-was g c =
-    let same = c.conn-2-1.given.1
-    (sym (c.insert_head.ensures.same_reference ∙ c.create_each_table.ensures.same_reference
-    ∙ c.transaction-tx.ensures.same_reference)) in
-    let made : Passed (state g.S.Store c.transaction-tx.result.conn.now)
-    (state g.S.Store c.create_each_table.new.tx.conn.now) =
-    record {
-      clean = c.create_each_table.ensures.clean;
-      inside = c.in_ok-create_each_table.ensures.inside;
-      kept =
-          c.create_each_table.ensures.kept;
-    } in
-    let stays = clean_then (state g.S.Store c.insert_head.new.tx.conn.now) made
-    c.insert_head.ensures.clean in
-    let kept = kept_then (state g.S.Store c.insert_head.new.tx.conn.now) made
-    c.insert_head.ensures.clean c.insert_head.ensures.kept in
-    rw same (λ clean. (
-      omega (
-        arith,
-        all_clean g.S.Store c.args.conn.now c.transaction-tx.result.conn.now
-            c.insert_head.new.tx.conn.now c.commit.new.self.0 c.transaction-tx.ensures.begun stays
-            kept
-            c.commit.ensures.survives.clean,
-        clean,
-      ),
-      ended_open g.S.Store c.args.conn.now
-          c.transaction-tx.result.conn.now c.insert_head.new.tx.conn.now c.commit.new.self.0
-          c.transaction-tx.ensures.begun stays kept c.commit.ensures.survives.clean c.commit.result
-          c.commit.ensures.ok c.commit.ensures.err clean,
-    ))
-
-pub returns-clause-crash : goal.returns-clause-crash
-returns-clause-crash g c clean none db left =
-    let begun = c.transaction-tx.ensures.begun in
-    let end = c.commit.new.self.0 in
-    let same = c.conn-2-1.given.1
-    (sym (c.insert_head.ensures.same_reference ∙ c.create_each_table.ensures.same_reference
-    ∙ c.transaction-tx.ensures.same_reference)) in
-    let late : HasCleanDisk (state g.S.Store end) = rw same at clean in
-    let second : HasCleanDisk (state g.S.Store c.insert_head.new.tx.conn.now) =
-    omega (arith, c.commit.ensures.survives.clean) in
-    let first : HasCleanDisk (state g.S.Store c.create_each_table.new.tx.conn.now) =
-    omega (arith, c.insert_head.ensures.clean) in
-    let inside : IsTrue (state g.S.Store c.transaction-tx.result.conn.now).in_transaction =
-    rw begun refl in
-    let tables = c.in_ok-create_each_table.ensures.made first inside (rw begun none) in
-    let in_head = c.in_ok-create_each_table.ensures.inside first inside in
-    let after : (state g.S.Store end).may_leave db = rw same at left in
-    either (c.commit.ensures.survives.crash late db after)
-    (λ before. rw begun at (spared _ _ (survives_both c.create_each_table.ensures.survives
-    c.insert_head.ensures.survives) second db before))
-    (λ is. tables_left (state g.S.Store c.insert_head.new.tx.conn.now).now ledger_schema db
-    (tables_of [] c.args.settings) is_ledger is
-    (c.in_ok-insert_head.ensures.made second in_head no_rows tables))
-
-pub returns-in_err-create_each_table-clause-crash :
-    goal.returns-in_err-create_each_table-clause-crash
-returns-in_err-create_each_table-clause-crash g c =
-    let same = c.conn-1.given.1
-    (sym (c.create_each_table.ensures.same_reference ∙ c.transaction-tx.ensures.same_reference)) in
-    rw same (λ clean none db left.
-    let written : HasCleanDisk (state g.S.Store c.create_each_table.new.tx.conn.now) =
-    omega (arith, c.drop-tx.ensures.survives.clean, clean) in
-    inl (rw c.transaction-tx.ensures.begun at (spared _ _ c.create_each_table.ensures.survives
-    written db (spared _ _ c.drop-tx.ensures.survives clean db left))))
-
-pub returns-in_err-insert_head-clause-crash : goal.returns-in_err-insert_head-clause-crash
-returns-in_err-insert_head-clause-crash g c =
-    let same = c.conn-in_err-insert_head-1.given.1
-    (sym (c.insert_head.ensures.same_reference ∙ c.create_each_table.ensures.same_reference
-    ∙ c.transaction-tx.ensures.same_reference)) in
-    rw same (λ clean none db left.
-    let written : HasCleanDisk (state g.S.Store c.insert_head.new.tx.conn.now) =
-    omega (arith, c.drop-tx-in_err-insert_head.ensures.survives.clean, clean) in
-    inl (rw c.transaction-tx.ensures.begun at (spared _ _
-    (survives_both c.create_each_table.ensures.survives c.insert_head.ensures.survives) written db
-    (spared _ _ c.drop-tx-in_err-insert_head.ensures.survives clean db left))))
+pub returns-in_err-insert_head : goal.returns-in_err-insert_head
+returns-in_err-insert_head g c =
+    let it = undone {old = c.args.conn.now} {end = c.drop-tx-in_err-insert_head.new.self.0} _
+    c.transaction-tx.ensures.begun (step_then c.in_ok-create_each_table.ensures
+    c.insert_head.ensures (λ made row. row)) c.from_residual-in_err-insert_head.ensures.1
+    c.drop-tx-in_err-insert_head.ensures.ended c.drop-tx-in_err-insert_head.ensures.undone c.drop-tx-in_err-insert_head.ensures.survives in
+    rw (c.conn-in_err-insert_head-1.given.1
+    (sym (c.insert_head.ensures.same_reference ∙ c.create_each_table.ensures.same_reference ∙ c.transaction-tx.ensures.same_reference)))
+    (record {
+      settled = it.settled;
+      was = λ clean. (omega (arith, it.clean, clean), it.was_open clean);
+      opened = it.opened;
+      all = λ clean none. on_ok_weaker c.from_residual-in_err-insert_head.result (λ out. absurd out.1) (it.done clean);
+      alone = λ clean none. on_ok_weaker c.from_residual-in_err-insert_head.result (λ out. absurd out.1)
+          (it.done clean);
+      none = it.none (λ clean opened. sym (c.is_autocommit.ensures.settled
+          (c.is_autocommit.ensures.value ∙ ap not c.requires.idle) opened));
+      crash = λ clean none db left. either (it.crash clean db left) (λ same. same)
+          (λ out. absurd out.1);
+    })

@@ -1,14 +1,15 @@
-use Rattle.std.proofs.Common.{◌≡◌, take}
-use Rattle.sqlite.specs.Held.{state}
+use Rattle.std.proofs.Common.{take}
 use Rattle.s10_rows.specs.RowWrites.{FindAtMostOne}
-use Rattle.s10_statements.proofs.WriteLemmas.{AreMade, with_serials_in}
+use Rattle.s10_statements.specs.Steps.{EditsFittingTables}
+use Rattle.s10_statements.proofs.WriteLemmas.{with_serials_in}
+use Rattle.s10_statements.proofs.StepLemmas.{Succeeds}
 use Rattle.s10_statements.proofs.writes.apply_serial_writes.Given as goal
 
 -- The writes so far are applied.
 abbrev pub invariant-loop-write : goal.invariant-loop-write
 invariant-loop-write g l = record {
-  same_reference : l.tx.conn.ghost_name ≡ l.initial.tx.conn.ghost_name;
-  so_far : AreMade (state g.S.Store l.fn.tx.conn.now) (state g.S.Store l.tx.conn.now)
+  step : Succeeds g.S.Store l.fn.tx.conn l.tx.conn
+      (EditsFittingTables g.S.Store l.fn.tx.conn l.tx.conn
       (λ tables. FindAtMostOne l.serials tables.serials)
-      (with_serials_in (take l.write-index l.serials));
+      (with_serials_in (take l.write-index l.serials)));
 }
