@@ -59,23 +59,10 @@ use Rattle.s10_statements.proofs.WriteTexts.{update_query}
 use Rattle.s10_statements.proofs.Apart.{no_works, none_shares, not_serials, is_as_it_was}
 use Rattle.s10_statements.proofs.Apart.{after_apart}
 use Rattle.s10_statements.proofs.ReadLemmas.{filter_each, kept_are, rows_are}
-use Rattle.s10_statements.proofs.PutLemmas.{cast_int, cast_null, went, same_value, put_fresh}
-use Rattle.s10_statements.proofs.PutLemmas.{one_fresh}
-use Rattle.s10_statements.proofs.KeepLemmas.{one_more}
+use Rattle.s10_statements.proofs.PutLemmas.{cast_int, cast_null, went, same_value, Spares, put_one}
+use Rattle.s10_statements.proofs.InsertLemmas.{one_more}
 use Rattle.s10_statements.proofs.GoneLemmas.{all_moved, all_of_map, all_shown, all_has, HasId}
 use Rattle.s10_statements.proofs.GoneLemmas.{all_ids, same_int, has_id, stays}
-
-zero_four : ◌≢◌ {A = ℕ} 0 4
-zero_four e = omega arith
-
-one_four : ◌≢◌ {A = ℕ} 1 4
-one_four e = omega arith
-
-three_four : ◌≢◌ {A = ℕ} 3 4
-three_four e = omega arith
-
-six_four : ◌≢◌ {A = ℕ} 6 4
-six_four e = omega arith
 
 -- Whether the columns are those of the row's identifier.
 abbrev pub at_key : SerialRow → Row → Bool
@@ -92,10 +79,7 @@ pub record Upserted (old new : Trees) (r : SerialRow) : Type 0 where
   pub is_numbered : HasIntegerRowid row
   pub shows : serial_columns row ≡ shown_serial r
   pub put : IsPermutation (row ∷ others r (old 4)) (new 4)
-  pub head : new 0 ≡ old 0
-  pub calls : new 1 ≡ old 1
-  pub ranges : new 3 ≡ old 3
-  pub closed : new 6 ≡ old 6
+  pub spared : Spares 4 old new
 
 abbrev pub new_row : ℤ → SerialRow → Row
 new_row id r = Int id ∷ shown_serial r
@@ -154,12 +138,8 @@ module _ (o : Schema) (apart : are_apart o.tables ≡ true) (limit : Option ℕ)
   puts db one none h =
       let w = went h in
       let edit = edit_of db serials_table [] Given 0 (new_row id r ∷ []) in
-      let a = one_step (with_closed o) Enforced db w.0 edit (no_works 4 not_serials (closed_first o)
-      apart Enforced 0 (taken_by db edit) edit.news) w.1 in
-      let news : edit.news ≡ new_row id r ∷ [] = rw (cast_same id r) in
-      let fresh : are_fresh (db 4) (new_row id r ∷ []) ≡ true =
-      subst (λ n. are_fresh (db 4) n ≡ true) news a.fresh in
-      let rows : w.0 4 ≡ put_row (new_row id r) (db 4) = a.rows ∙ rw (cast_same id r) in
+      let a = put_one o Enforced db w.0 edit (new_row id r) (no_works 4 not_serials (closed_first o)
+      apart Enforced 0 (taken_by db edit) edit.news) (rw (cast_same id r)) w.1 in
       let same : one.trees ≡ w.0 = ap (λ (it : Written). it.trees) (same_value w.2) in
       let left : others r (db 4) ≡ db 4 = keeps_all (λ x. not (at_key r (serial_columns x))) (db 4)
       (λ x has. ap not (none x has)) in
@@ -167,12 +147,8 @@ module _ (o : Schema) (apart : are_apart o.tables ≡ true) (limit : Option ℕ)
         row = new_row id r;
         is_numbered = refl;
         shows = refl;
-        put = rw (left, rows)
-            (put_fresh (new_row id r) (db 4) (one_fresh (db 4) (new_row id r) fresh));
-        head = a.tables.0 zero_four;
-        calls = a.tables.1.0 one_four;
-        ranges = a.tables.1.1.0 three_four;
-        closed = a.tables.1.1.1.1.0 six_four;
+        put = rw left a.0;
+        spared = a.1;
       })
 
 -- An identifier that has a row.
@@ -298,26 +274,17 @@ module _ (o : Schema) (apart : are_apart o.tables ≡ true) (limit : Option ℕ)
       let wrote = subst (λ rows. sqlWrites (with_closed o) Enforced db
       (edit_of db serials_table (ids_of rows) Given 1 rows) (Ok v.0)) f.1 v.1 in
       let edit = edit_of db serials_table (ids_of (full ∷ [])) Given 1 (full ∷ []) in
-      let a = one_step (with_closed o) Enforced db v.0 edit (no_works 4 not_serials (closed_first o)
-      apart Enforced 0 (taken_by db edit) edit.news) wrote in
+      let a = put_one o Enforced db v.0 edit (new_row k r) (no_works 4 not_serials (closed_first o)
+      apart Enforced 0 (taken_by db edit) edit.news) (rw (cast_same k r)) wrote in
       let stay : filter (stays k) (db 4) ≡ others r (db 4) = stay_others (db 4) numbers has key len
       f.0 in
-      let news : edit.news ≡ new_row k r ∷ [] = rw (cast_same k r) in
-      let fresh : are_fresh (filter (stays k) (db 4)) (new_row k r ∷ []) ≡ true =
-      subst (λ n. are_fresh (filter (stays k) (db 4)) n ≡ true) news a.fresh in
-      let rows : v.0 4 ≡ put_row (new_row k r) (filter (stays k) (db 4)) =
-      a.rows ∙ rw (cast_same k r) in
       subst (λ (n : Trees). Upserted db n r) (sym (ap (λ (it : Written). it.trees) same_one))
       (record {
         row = new_row k r;
         is_numbered = refl;
         shows = refl;
-        put = rw (← stay, rows) (put_fresh (new_row k r) (filter (stays k) (db 4))
-            (one_fresh (filter (stays k) (db 4)) (new_row k r) fresh));
-        head = a.tables.0 zero_four;
-        calls = a.tables.1.0 one_four;
-        ranges = a.tables.1.1.0 three_four;
-        closed = a.tables.1.1.1.1.0 six_four;
+        put = rw (← stay) a.0;
+        spared = a.1;
       })
 
 -- The rows that conflict are those of the identifier.
@@ -553,13 +520,13 @@ issues old new r tables held few h =
     record {
       schema = is_as_it_was old.now.schema new.now.schema held.schema
           (issue_schema o old.step_limit (mode_of old) old.now.trees r text w.tally new.now does);
-      heads = ∥∥₁_elim held.serials ∥∥₁_prop (λ p. rw (it p).head held.heads);
-      calls = ∥∥₁_elim held.serials ∥∥₁_prop (λ p. rw (it p).calls held.calls);
-      ranges = ∥∥₁_elim held.serials ∥∥₁_prop (λ p. rw (it p).ranges held.ranges);
+      heads = ∥∥₁_elim held.serials ∥∥₁_prop (λ p. rw ((it p).spared.head refl) held.heads);
+      calls = ∥∥₁_elim held.serials ∥∥₁_prop (λ p. rw ((it p).spared.calls refl) held.calls);
+      ranges = ∥∥₁_elim held.serials ∥∥₁_prop (λ p. rw ((it p).spared.ranges refl) held.ranges);
       serials = ∥∥₁_map held.serials (λ p. typed_after tables.serials r old.now.trees new.now.trees
           (it p) p);
       numbered = ∥∥₁_elim held.serials (AllByRecursion-prop HasIntegerRowid (λ x. Bool-set _ _)
           (new.now.trees 4)) (λ p. numbered_after r old.now.trees new.now.trees (it p)
           held.numbered);
-      closed = ∥∥₁_elim held.serials ∥∥₁_prop (λ p. rw (it p).closed held.closed);
+      closed = ∥∥₁_elim held.serials ∥∥₁_prop (λ p. rw ((it p).spared.closed refl) held.closed);
     }

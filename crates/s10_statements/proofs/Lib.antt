@@ -9,13 +9,10 @@ pub mod FoundLemmas
 pub mod ClosedReads
 pub mod PutLemmas
 pub mod WriteTexts
-pub mod KeepLemmas
 pub mod MakeLemmas
-pub mod HeadLemmas
 pub mod GoneLemmas
 pub mod IssueLemmas
-pub mod AddLemmas
-pub mod ClosedLemmas
+pub mod InsertLemmas
 pub mod MarkLemmas
 pub mod Apart
 pub mod CrashLemmas

@@ -46,10 +46,8 @@ use Rattle.s10_statements.specs.Statements.{update_mark_sql}
 use Rattle.s10_statements.proofs.WriteTexts.{mark_query, mark_is, mark_plain}
 use Rattle.s10_statements.proofs.Apart.{no_works, not_ranges, is_as_it_was, after_apart}
 use Rattle.s10_statements.proofs.ReadLemmas.{kept_are, rows_are}
-use Rattle.s10_statements.proofs.PutLemmas.{cast_int, cast_null, went, same_value, put_fresh}
-use Rattle.s10_statements.proofs.PutLemmas.{one_fresh}
-use Rattle.s10_statements.proofs.AddLemmas.{stored_range, zero_three, one_three, four_three}
-use Rattle.s10_statements.proofs.AddLemmas.{six_three}
+use Rattle.s10_statements.proofs.PutLemmas.{cast_int, cast_null, went, same_value, Spares, put_one}
+use Rattle.s10_statements.proofs.InsertLemmas.{stored_range}
 use Rattle.s10_statements.proofs.IssueLemmas.{length_numbered, length_mapped, one_changed, all_kept}
 use Rattle.s10_statements.proofs.GoneLemmas.{all_moved, all_of_map, all_shown, passing, same_int}
 use Rattle.s10_statements.proofs.GoneLemmas.{has_id, stays}
@@ -91,42 +89,13 @@ filter_typed P p q (x ∷ xs) same all = rw (same x all.0, filter_typed P p q xs
 cast_same : (r : RangeRow) → cast_row ranges_table (stored_range r) ≡ stored_range r
 cast_same r = rw (cast_int, cast_null, cast_int, cast_int, cast_int, cast_int, cast_int)
 
--- A row that is written back.
-one_put : (o : Schema) → are_apart o.tables ≡ true → (r : RangeRow) (db next : Trees)
-    → sqlWrites (with_closed o) Enforced db
-    (edit_of db ranges_table (ids_of ((Int r.num ∷ stored_range r) ∷ [])) Given 1
-    ((Int r.num ∷ stored_range r) ∷ [])) (Ok next)
-    → IsPermutation (stored_range r ∷ filter (stays r.num) (db 3)) (next 3) × (next 0 ≡ db 0)
-    × (next 1 ≡ db 1) × (next 4 ≡ db 4) × (next 6 ≡ db 6)
-one_put o apart r db next wrote =
-    let edit = edit_of db ranges_table (ids_of ((Int r.num ∷ stored_range r) ∷ [])) Given 1
-    ((Int r.num ∷ stored_range r) ∷ []) in
-    let a = one_step (with_closed o) Enforced db next edit (no_works 3 not_ranges (closed_first o)
-    apart Enforced 0 (taken_by db edit) edit.news) wrote in
-    let news : edit.news ≡ stored_range r ∷ [] = rw (cast_same r) in
-    let fresh : are_fresh (filter (stays r.num) (db 3)) (stored_range r ∷ []) ≡ true =
-    subst (λ n. are_fresh (filter (stays r.num) (db 3)) n ≡ true) news a.fresh in
-    let rows : next 3 ≡ put_row (stored_range r) (filter (stays r.num) (db 3)) =
-    a.rows ∙ rw (cast_same r) in (
-      subst (IsPermutation (stored_range r ∷ filter (stays r.num) (db 3))) (sym rows)
-          (put_fresh (stored_range r) (filter (stays r.num) (db 3))
-          (one_fresh (filter (stays r.num) (db 3)) (stored_range r) fresh)),
-      a.tables.0 zero_three,
-      a.tables.1.0 one_three,
-      a.tables.1.1.1.0 four_three,
-      a.tables.1.1.1.1.0 six_three,
-    )
-
 -- The row with the number has the mark, and everything else is as it was.
 record Marked (old new : Trees) (num mark : ℤ) : Type 0 where
   pub there : Row
   pub single : filter (has_rowid num) (old 3) ≡ there ∷ []
   pub put : IsPermutation ((column there 0 ∷ Null ∷ column there 2 ∷ column there 3 ∷ column there 4
       ∷ column there 5 ∷ Int mark ∷ []) ∷ filter (stays num) (old 3)) (new 3)
-  pub head : new 0 ≡ old 0
-  pub calls : new 1 ≡ old 1
-  pub serials : new 4 ≡ old 4
-  pub closed : new 6 ≡ old 6
+  pub others : Spares 3 old new
 
 module _ (o : Schema) (apart : are_apart o.tables ≡ true) (limit : Option ℕ) (num mark : ℤ)
     (db : Trees) (typed : AllByRecursion (λ x. IsRange (range_columns x)) (db 3)) where
@@ -220,7 +189,9 @@ module _ (o : Schema) (apart : are_apart o.tables ≡ true) (limit : Option ℕ)
       ∙ ap (λ x. x ∷ []) is_full) found) in
       let wrote = subst (λ rows. sqlWrites (with_closed o) Enforced db
       (edit_of db ranges_table (ids_of rows) Given 1 rows) (Ok v.0)) rows_is v.1 in
-      let it = one_put o apart r db v.0 wrote in
+      let edit = edit_of db ranges_table (ids_of (full ∷ [])) Given 1 (full ∷ []) in
+      let it = put_one o Enforced db v.0 edit (stored_range r) (no_works 3 not_ranges
+      (closed_first o) apart Enforced 0 (taken_by db edit) edit.news) (rw (cast_same r)) wrote in
       let back : stored_range r ≡ column there 0 ∷ Null ∷ column there 2 ∷ column there 3
       ∷ column there 4 ∷ column there 5 ∷ Int mark ∷ [] = rw (e0, e2, e3, e4, e5) refl in
       subst (λ (n : Trees). Marked db n num mark) (sym (ap (λ (it : Written). it.trees) same_one))
@@ -228,10 +199,7 @@ module _ (o : Schema) (apart : are_apart o.tables ≡ true) (limit : Option ℕ)
         there = there;
         single = single.1;
         put = subst (λ x. IsPermutation (x ∷ filter (stays num) (db 3)) (v.0 3)) back it.0;
-        head = it.1;
-        calls = it.2;
-        serials = it.3;
-        closed = it.4;
+        others = it.1;
       })
 
 -- The typed rows after the write.
@@ -320,12 +288,12 @@ marks old new num mark tables held h =
     record {
       schema = is_as_it_was old.now.schema new.now.schema held.schema
           (ap (λ (d : Database). d.schema) now);
-      heads = ∥∥₁_elim held.ranges ∥∥₁_prop (λ p. rw (it p).head held.heads);
-      calls = ∥∥₁_elim held.ranges ∥∥₁_prop (λ p. rw (it p).calls held.calls);
+      heads = ∥∥₁_elim held.ranges ∥∥₁_prop (λ p. rw ((it p).others.head refl) held.heads);
+      calls = ∥∥₁_elim held.ranges ∥∥₁_prop (λ p. rw ((it p).others.calls refl) held.calls);
       ranges = ∥∥₁_map held.ranges (λ p. typed_after tables.ranges num mark old.now.trees
           new.now.trees (it p) p);
-      serials = ∥∥₁_elim held.ranges ∥∥₁_prop (λ p. rw (it p).serials held.serials);
+      serials = ∥∥₁_elim held.ranges ∥∥₁_prop (λ p. rw ((it p).others.serials refl) held.serials);
       numbered = ∥∥₁_elim held.ranges (AllByRecursion-prop HasIntegerRowid (λ x. Bool-set _ _)
-          (new.now.trees 4)) (λ p. rw (it p).serials held.numbered);
-      closed = ∥∥₁_elim held.ranges ∥∥₁_prop (λ p. rw (it p).closed held.closed);
+          (new.now.trees 4)) (λ p. rw ((it p).others.serials refl) held.numbered);
+      closed = ∥∥₁_elim held.ranges ∥∥₁_prop (λ p. rw ((it p).others.closed refl) held.closed);
     }

@@ -1,6 +1,8 @@
 -- Rows that are inserted into a tree and removed from it.
 use Rattle.std.proofs.Common.{◌≡◌, ◌⊎◌, inl, inr, ℤ, List, [], ◌∷◌, Bool, true, false, not, ◌&&◌}
-use Rattle.std.proofs.Common.{◌||◌, cond, Result, Ok, Err, refl, Ordering, Less, Equal, Greater}
+use Rattle.std.proofs.Common.{◌||◌, ◌==◌, cond, Result, Ok, Err, refl, sym, ap, subst, ◌∙◌}
+use Rattle.std.proofs.Common.{Ordering, Less, Equal, Greater, ℕ}
+use Rattle.std.proofs.lemmas.Bool.{eqb-false}
 use Rattle.std.specs.Ordering.{is_eq, match_ordering}
 use Rattle.std.specs.List.Sorted.{IsPermutation}
 use Rattle.std.proofs.lemmas.List.Sorted.{IsPermutation-refl, IsPermutation-cons}
@@ -9,11 +11,16 @@ use Rattle.std.proofs.lemmas.List.Sorted.{IsPermutation-append_left}
 use Rattle.sqlite_value.specs.declared.value.Value.{Value}
 use Rattle.sqlite_value.specs.declared.value.Value.TheVariants.{Null, Int}
 use Rattle.sqlite_value.specs.Order.{Row, value_cmp}
-use Rattle.sqlite_trees.specs.Tree.{rowid, put_row}
+use Rattle.sqlite_trees.specs.Tree.{Trees, rowid, put_row}
 use Rattle.sqlite_sql.specs.Ops.{unary}
+use Rattle.sqlite_schema.specs.declared.schema.Keys.{Keys}
+use Rattle.sqlite_schema.specs.declared.schema.Schema.{Schema}
 use Rattle.sqlite_schema.specs.declared.schema.Kind.TheVariants.{Integer}
 use Rattle.sqlite_rules.specs.Cast.{cast}
-use Rattle.sqlite_rules.specs.Edit.{is_taken, are_fresh}
+use Rattle.sqlite_rules.specs.Edit.{Edit, is_taken, are_fresh, left_by, put_all, taken_by}
+use Rattle.sqlite_rules.specs.Action.{Writes, works}
+use Rattle.sqlite.proofs.Callers.{one_step}
+use Rattle.s10_schema.specs.Schema.{with_closed}
 
 either : (b : Bool) (x : Value) → cond b x x ≡ x
 either true x = refl
@@ -63,3 +70,34 @@ fresh_both false b h = refl
 pub one_fresh : (rows : List Row) (new : Row) → are_fresh rows (new ∷ []) ≡ true → is_taken rows new
     ≡ false
 one_fresh rows new h = fresh_both (is_taken rows new) _ h
+
+-- The trees of the five tables, except this one, are as they were.
+pub record Spares (tree : ℕ) (old new : Trees) : Type 0 where
+  pub head : (0 == tree) ≡ false → new 0 ≡ old 0
+  pub calls : (1 == tree) ≡ false → new 1 ≡ old 1
+  pub ranges : (3 == tree) ≡ false → new 3 ≡ old 3
+  pub serials : (4 == tree) ≡ false → new 4 ≡ old 4
+  pub closed : (6 == tree) ≡ false → new 6 ≡ old 6
+
+-- An edit with one new row, on which no foreign key acts.
+pub put_one : (o : Schema) (keys : Keys) (db next : Trees) (edit : Edit) (row : Row)
+    → works (with_closed o) keys 0 edit.table.tree (taken_by db edit) edit.news ≡ []
+    → edit.news ≡ row ∷ [] → Writes (with_closed o) keys db edit (Ok next)
+    → IsPermutation (row ∷ left_by db edit) (next edit.table.tree)
+    × Spares edit.table.tree db next
+put_one o keys db next edit row none news wrote =
+    let a = one_step (with_closed o) keys db next edit none wrote in
+    let left = left_by db edit in
+    let tree = edit.table.tree in
+    let fresh : are_fresh left (row ∷ []) ≡ true = subst (λ n. are_fresh left n ≡ true) news a.fresh
+    in
+    let rows : next tree ≡ put_row row left = a.rows ∙ ap (put_all left) news in (
+      subst (IsPermutation (row ∷ left)) (sym rows) (put_fresh row left (one_fresh left row fresh)),
+      record {
+        head = λ e. a.tables.0 (eqb-false 0 tree e);
+        calls = λ e. a.tables.1.0 (eqb-false 1 tree e);
+        ranges = λ e. a.tables.1.1.0 (eqb-false 3 tree e);
+        serials = λ e. a.tables.1.1.1.0 (eqb-false 4 tree e);
+        closed = λ e. a.tables.1.1.1.1.0 (eqb-false 6 tree e);
+      },
+    )

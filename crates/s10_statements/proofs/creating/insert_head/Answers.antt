@@ -2,7 +2,7 @@ use Rattle.std.proofs.Common.{◌≡◌, ◌∙◌, ℕ, pos, ap}
 use Rattle.sqlite_value.specs.declared.value.Value.TheVariants.{Int}
 use Rattle.sqlite_value.specs.Value.{owned}
 use Rattle.sqlite.specs.Held.{state}
-use Rattle.s10_statements.proofs.HeadLemmas.{begins, as_declared}
+use Rattle.s10_statements.proofs.InsertLemmas.{begins, as_declared}
 use Rattle.s10_statements.proofs.StepLemmas.{ran, not_ran}
 use Rattle.s10_statements.proofs.creating.insert_head.Goals as goal
 

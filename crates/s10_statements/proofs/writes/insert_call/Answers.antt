@@ -1,7 +1,7 @@
 use Rattle.std.proofs.Common.{pos}
 use Rattle.sqlite.specs.Held.{state}
 use Rattle.s10_rows.specs.CallRow.{StoredCall}
-use Rattle.s10_statements.proofs.KeepLemmas.{keeps}
+use Rattle.s10_statements.proofs.InsertLemmas.{keeps}
 use Rattle.s10_statements.proofs.StepLemmas.{ran, not_ran}
 use Rattle.s10_statements.proofs.writes.insert_call.Goals as goal
 

@@ -2,7 +2,7 @@ use Rattle.std.proofs.Common.{rules, ◌≡◌}
 use Rattle.sqlite_value.specs.declared.value.Value.TheVariants.{Int}
 use Rattle.sqlite_value.specs.Value.{owned}
 use Rattle.sqlite.specs.Held.{state}
-use Rattle.s10_statements.proofs.ClosedLemmas.{closes}
+use Rattle.s10_statements.proofs.InsertLemmas.{closes}
 use Rattle.s10_statements.proofs.StepLemmas.{ran, not_ran}
 use Rattle.s10_statements.proofs.writes.insert_closed.Goals as goal
 

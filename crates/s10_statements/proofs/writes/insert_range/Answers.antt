@@ -2,7 +2,7 @@ use Rattle.std.proofs.Common.{rules, ◌≡◌}
 use Rattle.sqlite_value.specs.declared.value.Value.TheVariants.{Int}
 use Rattle.sqlite_value.specs.Value.{owned}
 use Rattle.sqlite.specs.Held.{state}
-use Rattle.s10_statements.proofs.AddLemmas.{adds_range}
+use Rattle.s10_statements.proofs.InsertLemmas.{adds_range}
 use Rattle.s10_statements.proofs.StepLemmas.{ran, not_ran}
 use Rattle.s10_statements.proofs.writes.insert_range.Goals as goal
 
