@@ -203,49 +203,55 @@ module _ {S : Type 0} (g : Ghosts S) (sql : List ℕ) (params : Row) (plain : On
         ([], it.0, it.1, none);
   }
 
-  module _ (P : List Row → Type 0) (old a b : Held S) (it : IsUnderWay g sql params P old a)
-      (mode : a.in_transaction ≡ false → b.in_transaction ≡ false)
-      (survives : Survives (state g a) (state g b) (λ _. ⊥)) where
-    pub stepped_leaves : (HasCleanDisk (state g b) → Moves (state g a) (state g b))
-        → LeavesTables g old b
-    stepped_leaves moves = leaves_then g old a b it.leaves (moved_leaves g a b survives.clean mode
-        moves)
+module _ {S : Type 0} {g : Ghosts S} {sql : List ℕ} {params : Row} {P : List Row → Type 0}
+    {old a : Held S} (plain : OnlyReads sql) (it : IsUnderWay g sql params P old a) (b : Held S)
+    (mode : a.in_transaction ≡ false → b.in_transaction ≡ false)
+    (survives : Survives (state g a) (state g b) (λ _. ⊥)) where
+  stepped_leaves : (HasCleanDisk (state g b) → Moves (state g a) (state g b))
+      → LeavesTables g old b
+  stepped_leaves moves = leaves_then g old a b it.leaves (moved_leaves g a b survives.clean mode
+      moves)
 
-    before : HasCleanDisk (state g b) → HasCleanDisk (state g a)
-    before c = omega (arith, survives.clean, c)
+  before : HasCleanDisk (state g b) → HasCleanDisk (state g a)
+  before c = omega (arith, survives.clean, c)
 
-    pub stepped_spares : AddsNoCrashState g old b
-    stepped_spares c has db left =
-        it.spares (before c) has db (spared (state g a) (state g b) survives c db left)
+  stepped_spares : AddsNoCrashState g old b
+  stepped_spares c has db left =
+      it.spares (before c) has db (spared (state g a) (state g b) survives c db left)
 
-    pub stepped : (row : Row) (Q : List Row → Type 0)
-        → (HasCleanDisk (state g b) → IsUnchanged (state g a) (state g b))
-        → (HasCleanDisk (state g b) → Advances g a b (Some row))
-        → ((rows : List Row) → P rows → Q (rows ++ row ∷ [])) → IsUnderWay g sql params Q old b
-    stepped row Q same moves more = record {
-      leaves = stepped_leaves (λ c. inl (same c));
-      spares = stepped_spares;
-      given = λ c has. let was = it.given (before c) has in (
-        was.0 ++ row ∷ [],
-        moves c sql params was.0 was.1,
-        unchanged_then (state g old) (state g a) (state g b) was.2 (same c),
-        more was.0 was.3,
-      );
-    }
+  -- No row was read, or none is kept.
+  pub stopped : (HasCleanDisk (state g b) → Moves (state g a) (state g b)) → LeavesTables g old b
+      × AddsNoCrashState g old b
+  stopped moves = (stepped_leaves moves, stepped_spares)
 
-    pub ended : (HasCleanDisk (state g b) → Advances g a b None) → HasCleanDisk (state g b)
-        → IsLedgerSchema (state g old).now.schema
-        → (rows : List Row) × Shown sql params (state g old) (state g b) rows × P rows
-    ended moves c has =
-        let was = it.given (before c) has in
-        let known : IsPlain (understood (state g a).now.schema sql) =
-        subst (λ (d : Database). IsPlain (understood d.schema sql)) (sym was.2.0.now_is)
-        (known_plain sql plain (state g old).now.schema has) in (
-          was.0,
-          shown_before sql params (state g old) (state g a) (state g b) was.0 known was.2
-              (moves c sql params was.0 was.1),
-          was.3,
-        )
+  pub stepped : (row : Row) (Q : List Row → Type 0)
+      → (HasCleanDisk (state g b) → IsUnchanged (state g a) (state g b))
+      → (HasCleanDisk (state g b) → Advances g a b (Some row))
+      → ((rows : List Row) → P rows → Q (rows ++ row ∷ [])) → IsUnderWay g sql params Q old b
+  stepped row Q same moves more = record {
+    leaves = stepped_leaves (λ c. inl (same c));
+    spares = stepped_spares;
+    given = λ c has. let was = it.given (before c) has in (
+      was.0 ++ row ∷ [],
+      moves c sql params was.0 was.1,
+      unchanged_then (state g old) (state g a) (state g b) was.2 (same c),
+      more was.0 was.3,
+    );
+  }
+
+  pub ended : (HasCleanDisk (state g b) → Advances g a b None) → HasCleanDisk (state g b)
+      → IsLedgerSchema (state g old).now.schema
+      → (rows : List Row) × Shown sql params (state g old) (state g b) rows × P rows
+  ended moves c has =
+      let was = it.given (before c) has in
+      let known : IsPlain (understood (state g a).now.schema sql) =
+      subst (λ (d : Database). IsPlain (understood d.schema sql)) (sym was.2.0.now_is)
+      (known_plain sql plain (state g old).now.schema has) in (
+        was.0,
+        shown_before sql params (state g old) (state g a) (state g b) was.0 known was.2
+            (moves c sql params was.0 was.1),
+        was.3,
+      )
 
 pub map_snoc : {A B : Type 0} (f : A → B) (xs : List A) (x : A) → map f (xs ++ x ∷ []) ≡ map f xs
     ++ f x ∷ []

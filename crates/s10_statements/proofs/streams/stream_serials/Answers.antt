@@ -1,54 +1,24 @@
 use Rattle.std.proofs.Common.{◌≡◌, inl, [], List, Option, Some, None, map, refl, sym, ap, subst}
 use Rattle.std.proofs.Common.{◌∙◌, All, IsTrue, arith}
-use Rattle.std.proofs.lemmas.Result.{err_from_is_err_and}
 use Rattle.std.proofs.lemmas.List.Elements.{All-push}
 use Rattle.sqlite_trees.specs.View.{is_int}
 use Rattle.sqlite_value.specs.Order.{Row, column}
-use Rattle.sqlite.specs.Given.{Advances, row_if}
-use Rattle.sqlite.specs.Held.{state}
-use Rattle.sqlite.specs.State.{HasCleanDisk}
 use Rattle.s10_statements.specs.Shown.{shown_serial, serial_front}
-use Rattle.s10_statements.proofs.RowByRow.{failed_leaves, begun_spares, stepped_spares, begun}
-use Rattle.s10_statements.proofs.RowByRow.{stepped, stepped_leaves, ended}
-use Rattle.s10_statements.proofs.RowByRow.{failed_moves, map_push, map_snoc, on_err, if_err}
+use Rattle.std.proofs.lemmas.Result.{err_from_is_err_and}
+use Rattle.sqlite.specs.Given.{Advances, row_if}
+use Rattle.s10_statements.proofs.RowByRow.{failed_leaves, begun_spares, begun, stepped, stopped}
+use Rattle.s10_statements.proofs.RowByRow.{ended, failed_moves, map_push, map_snoc, on_err, if_err}
 use Rattle.s10_statements.proofs.streams.stream_serials.Goals as goal
-
-pub returns-in_err-shown-clause-leaves : goal.returns-in_err-shown-clause-leaves
-returns-in_err-shown-clause-leaves g c =
-    let refused = on_err c.query.result _ c.in_err-shown.field-0.0 c.in_err-shown.was
-    c.query.follows.holds-at-none in
-    failed_leaves g.S.Store c.args.sql.now [] c.requires.plain c.args.conn.now
-    c.query.follows.lender-at-none refused.survives.clean refused.mode c.in_err-shown.field-0.0
-    (λ clean. if_err c.query.result _ c.in_err-shown.field-0.0 c.in_err-shown.was
-    (refused.err clean))
 
 pub rows-init : goal.rows-init
 rows-init g c =
     let made = c.in_ok-shown.ensures in
     record {
       same_reference = refl;
-      so_far = begun g.S.Store c.args.sql.now [] c.requires.plain _ c.args.conn.now
-          c.in_ok-shown.shown.conn.now made.mode made.survives made.begun
+      so_far = begun g.S.Store c.args.sql.now [] c.requires.plain _
+          c.args.conn.now c.in_ok-shown.shown.conn.now made.mode made.survives made.begun
           (ap (map shown_serial) c.new-serials.ensures.items, λ i d low. absurd (omega arith));
     }
-
-pub returns-in_default-clause-rows : goal.returns-in_default-clause-rows
-returns-in_default-clause-rows g c = λ clean has.
-    let now = c.advance.new.self.conn.now in
-    let moved = c.in_ok-advance.ensures in
-    let same = c.conn-in_default-1.given.1
-    (sym (moved.same_reference ∙ c.rows.invariant.same_reference
-    ∙ c.in_ok-shown.ensures.same_reference)) ∙ c.drop-shown-in_default.ensures in
-    let late : HasCleanDisk (state g.S.Store now) = rw same at clean in
-    let none : row_if c.advance.new.self.has_row now ≡ None =
-    sym (rw c.in_default.is at c.get.ensures) in
-    let it = ended g.S.Store c.args.sql.now [] c.requires.plain
-    (λ (rows : List Row). (map shown_serial c.rows.serials.items ≡ map serial_front rows)
-    × All (λ row. IsTrue (is_int (column row 7))) rows) c.args.conn.now c.rows.shown.conn.now
-    now c.rows.invariant.so_far moved.mode moved.survives
-    (λ sure. subst (λ (r : Option Row). Advances g.S.Store c.rows.shown.conn.now now r) none
-    (moved.ok sure)) late has in
-    rw same (it.0, it.1, it.2.0, it.2.1)
 
 pub rows-preserved : goal.rows-preserved
 rows-preserved g c =
@@ -59,11 +29,8 @@ rows-preserved g c =
     sym (rw c.in-Some.is at c.get.ensures) in
     record {
       same_reference = moved.same_reference ∙ c.rows.invariant.same_reference;
-      so_far = stepped g.S.Store c.args.sql.now [] c.requires.plain
-          (λ (rows : List Row). (map shown_serial c.rows.serials.items ≡ map serial_front rows)
-          × All (λ row. IsTrue (is_int (column row 7))) rows) c.args.conn.now c.rows.shown.conn.now
-          now c.rows.invariant.so_far moved.mode moved.survives
-          row (λ (rows : List Row). (map shown_serial c.push.new.self.items ≡ map serial_front rows)
+      so_far = stepped c.requires.plain c.rows.invariant.so_far now moved.mode moved.survives row
+          (λ (rows : List Row). (map shown_serial c.push.new.self.items ≡ map serial_front rows)
           × All (λ row. IsTrue (is_int (column row 7))) rows) moved.same
           (λ sure. subst (λ (r : Option Row). Advances g.S.Store c.rows.shown.conn.now now r)
           some (moved.ok sure))
@@ -77,158 +44,92 @@ rows-preserved g c =
           ));
     }
 
-pub returns-in_err-shown-clause-opened : goal.returns-in_err-shown-clause-opened
-returns-in_err-shown-clause-opened g c =
-    λ clean. rw (err_from_is_err_and c.from_residual.result c.from_residual.ensures.1).1 tt
-
-pub returns-in_err-shown-clause-rows : goal.returns-in_err-shown-clause-rows
-returns-in_err-shown-clause-rows g c =
-    λ clean. rw (err_from_is_err_and c.from_residual.result c.from_residual.ensures.1).1 tt
-
-pub returns-in_err-advance-clause-leaves : goal.returns-in_err-advance-clause-leaves
-returns-in_err-advance-clause-leaves g c =
-    let moved = c.in_err-advance.ensures in
-    let same = c.conn-in_err-advance-1.given.1
-    (sym (moved.same_reference ∙ c.rows.invariant.same_reference
-    ∙ c.in_ok-shown.ensures.same_reference)) ∙ c.drop-shown.ensures in
-    rw same (stepped_leaves g.S.Store c.args.sql.now [] c.requires.plain _ c.args.conn.now
-    c.rows.shown.conn.now c.advance.new.self.conn.now c.rows.invariant.so_far moved.mode
-    moved.survives (λ sure. failed_moves _ _ _ (moved.kept sure)))
-
-pub returns-in_err-advance-clause-opened : goal.returns-in_err-advance-clause-opened
-returns-in_err-advance-clause-opened g c =
-    λ clean. rw (err_from_is_err_and c.from_residual-in_err-advance.result
-    c.from_residual-in_err-advance.ensures.1).1 tt
-
-pub returns-in_err-advance-clause-rows : goal.returns-in_err-advance-clause-rows
-returns-in_err-advance-clause-rows g c =
-    λ clean. rw (err_from_is_err_and c.from_residual-in_err-advance.result
-    c.from_residual-in_err-advance.ensures.1).1 tt
-
-pub returns-in_err-serial_with_rowid_in-clause-leaves :
-    goal.returns-in_err-serial_with_rowid_in-clause-leaves
-returns-in_err-serial_with_rowid_in-clause-leaves g c =
-    let moved = c.in_ok-advance.ensures in
-    let same = c.conn-in_err-serial_with_rowid_in-1.given.1
-    (sym (moved.same_reference ∙ c.rows.invariant.same_reference
-    ∙ c.in_ok-shown.ensures.same_reference))
-    ∙ c.drop-shown-in_err-serial_with_rowid_in.ensures in
-    rw same (stepped_leaves g.S.Store c.args.sql.now [] c.requires.plain _ c.args.conn.now
-    c.rows.shown.conn.now c.advance.new.self.conn.now c.rows.invariant.so_far moved.mode
-    moved.survives (λ sure. inl (moved.same sure)))
-
-pub returns-in_err-serial_with_rowid_in-clause-opened :
-    goal.returns-in_err-serial_with_rowid_in-clause-opened
-returns-in_err-serial_with_rowid_in-clause-opened g c =
-    λ clean. rw (err_from_is_err_and c.from_residual-in_err-serial_with_rowid_in.result
-    c.from_residual-in_err-serial_with_rowid_in.ensures.1).1 tt
-
-pub returns-in_err-serial_with_rowid_in-clause-rows :
-    goal.returns-in_err-serial_with_rowid_in-clause-rows
-returns-in_err-serial_with_rowid_in-clause-rows g c =
-    λ clean. rw (err_from_is_err_and c.from_residual-in_err-serial_with_rowid_in.result
-    c.from_residual-in_err-serial_with_rowid_in.ensures.1).1 tt
-
-pub returns-in_err-push-clause-leaves : goal.returns-in_err-push-clause-leaves
-returns-in_err-push-clause-leaves g c =
-    let moved = c.in_ok-advance.ensures in
-    let same = c.conn-in_err-push-1.given.1
-    (sym (moved.same_reference ∙ c.rows.invariant.same_reference
-    ∙ c.in_ok-shown.ensures.same_reference)) ∙ c.drop-shown-in_err-push.ensures in
-    rw same (stepped_leaves g.S.Store c.args.sql.now [] c.requires.plain _ c.args.conn.now
-    c.rows.shown.conn.now c.advance.new.self.conn.now c.rows.invariant.so_far moved.mode
-    moved.survives (λ sure. inl (moved.same sure)))
-
-pub returns-in_err-push-clause-opened : goal.returns-in_err-push-clause-opened
-returns-in_err-push-clause-opened g c =
-    λ clean. rw (err_from_is_err_and c.from_residual-in_err-push.result
-    c.from_residual-in_err-push.ensures.1).1 tt
-
-pub returns-in_err-push-clause-rows : goal.returns-in_err-push-clause-rows
-returns-in_err-push-clause-rows g c =
-    λ clean. rw (err_from_is_err_and c.from_residual-in_err-push.result
-    c.from_residual-in_err-push.ensures.1).1 tt
-
-pub returns-in_default-clause-leaves : goal.returns-in_default-clause-leaves
-returns-in_default-clause-leaves g c =
-    let moved = c.in_ok-advance.ensures in
-    let same = c.conn-in_default-1.given.1
-    (sym (moved.same_reference ∙ c.rows.invariant.same_reference
-    ∙ c.in_ok-shown.ensures.same_reference)) ∙ c.drop-shown-in_default.ensures in
-    rw same (stepped_leaves g.S.Store c.args.sql.now [] c.requires.plain _ c.args.conn.now
-    c.rows.shown.conn.now c.advance.new.self.conn.now c.rows.invariant.so_far moved.mode
-    moved.survives (λ sure. inl (moved.same sure)))
-
-pub returns-in_default-clause-opened : goal.returns-in_default-clause-opened
-returns-in_default-clause-opened g c =
-    let moved = c.in_ok-advance.ensures in
-    let same = c.conn-in_default-1.given.1
-    (sym (moved.same_reference ∙ c.rows.invariant.same_reference
-    ∙ c.in_ok-shown.ensures.same_reference)) ∙ c.drop-shown-in_default.ensures in
-    λ clean. rw same (moved.same (rw same at clean)).0.is_open
-
-pub returns-clause-leaves : goal.returns-clause-leaves
-returns-clause-leaves g c =
-    rw (c.conn-2-1.given.1
-    (sym (c.rows.invariant.same_reference ∙ c.in_ok-shown.ensures.same_reference))
-    ∙ c.drop-shown-2.ensures) c.rows.invariant.so_far.leaves
-
-pub returns-clause-opened : goal.returns-clause-opened
-returns-clause-opened g c = λ clean. tt
-
-pub returns-clause-rows : goal.returns-clause-rows
-returns-clause-rows g c = λ clean. tt
-
-pub returns-in_err-shown-clause-spares : goal.returns-in_err-shown-clause-spares
-returns-in_err-shown-clause-spares g c =
+pub returns-in_err-shown : goal.returns-in_err-shown
+returns-in_err-shown g c =
     let refused = on_err c.query.result _ c.in_err-shown.field-0.0 c.in_err-shown.was
     c.query.follows.holds-at-none in
-    begun_spares g.S.Store c.args.sql.now [] c.requires.plain c.args.conn.now
-    c.query.follows.lender-at-none refused.survives.clean refused.mode refused.survives
+    let err = (err_from_is_err_and c.from_residual.result c.from_residual.ensures.1).1 in
+    record {
+      leaves = failed_leaves g.S.Store c.args.sql.now [] c.requires.plain c.args.conn.now
+          c.query.follows.lender-at-none refused.survives.clean refused.mode
+          c.in_err-shown.field-0.0 (λ clean. if_err c.query.result _ c.in_err-shown.field-0.0
+          c.in_err-shown.was (refused.err clean));
+      spares = begun_spares g.S.Store c.args.sql.now [] c.requires.plain c.args.conn.now
+          c.query.follows.lender-at-none refused.survives.clean refused.mode refused.survives;
+      opened = λ clean. rw err tt;
+      rows = λ clean. rw err tt;
+    }
 
-pub returns-in_err-advance-clause-spares : goal.returns-in_err-advance-clause-spares
-returns-in_err-advance-clause-spares g c =
+pub returns-in_err-advance : goal.returns-in_err-advance
+returns-in_err-advance g c =
     let moved = c.in_err-advance.ensures in
-    let same = c.conn-in_err-advance-1.given.1
-    (sym (moved.same_reference ∙ c.rows.invariant.same_reference
-    ∙ c.in_ok-shown.ensures.same_reference)) ∙ c.drop-shown.ensures in
-    rw same (stepped_spares g.S.Store c.args.sql.now [] c.requires.plain _
-    c.args.conn.now c.rows.shown.conn.now c.advance.new.self.conn.now c.rows.invariant.so_far
-    moved.mode moved.survives)
+    let it = stopped c.requires.plain c.rows.invariant.so_far c.advance.new.self.conn.now moved.mode
+    moved.survives (λ sure. failed_moves _ _ _ (moved.kept sure)) in
+    let err = (err_from_is_err_and c.from_residual-in_err-advance.result
+    c.from_residual-in_err-advance.ensures.1).1 in
+    rw (c.conn-in_err-advance-1.given.1 (sym (moved.same_reference ∙ c.rows.invariant.same_reference
+    ∙ c.in_ok-shown.ensures.same_reference)) ∙ c.drop-shown.ensures) (record {
+      leaves = it.0;
+      spares = it.1;
+      opened = λ clean. rw err tt;
+      rows = λ clean. rw err tt;
+    })
 
-pub returns-in_err-serial_with_rowid_in-clause-spares :
-    goal.returns-in_err-serial_with_rowid_in-clause-spares
-returns-in_err-serial_with_rowid_in-clause-spares g c =
+pub returns-in_err-serial_with_rowid_in : goal.returns-in_err-serial_with_rowid_in
+returns-in_err-serial_with_rowid_in g c =
     let moved = c.in_ok-advance.ensures in
-    let same = c.conn-in_err-serial_with_rowid_in-1.given.1
-    (sym (moved.same_reference ∙ c.rows.invariant.same_reference
-    ∙ c.in_ok-shown.ensures.same_reference)) ∙ c.drop-shown-in_err-serial_with_rowid_in.ensures in
-    rw same (stepped_spares g.S.Store c.args.sql.now [] c.requires.plain _
-    c.args.conn.now c.rows.shown.conn.now c.advance.new.self.conn.now c.rows.invariant.so_far
-    moved.mode moved.survives)
+    let it = stopped c.requires.plain c.rows.invariant.so_far c.advance.new.self.conn.now moved.mode
+    moved.survives (λ sure. inl (moved.same sure)) in
+    let err = (err_from_is_err_and c.from_residual-in_err-serial_with_rowid_in.result
+    c.from_residual-in_err-serial_with_rowid_in.ensures.1).1 in
+    rw (c.conn-in_err-serial_with_rowid_in-1.given.1 (sym (moved.same_reference ∙ c.rows.invariant.same_reference
+    ∙ c.in_ok-shown.ensures.same_reference)) ∙ c.drop-shown-in_err-serial_with_rowid_in.ensures) (record {
+      leaves = it.0;
+      spares = it.1;
+      opened = λ clean. rw err tt;
+      rows = λ clean. rw err tt;
+    })
 
-pub returns-in_err-push-clause-spares : goal.returns-in_err-push-clause-spares
-returns-in_err-push-clause-spares g c =
+pub returns-in_err-push : goal.returns-in_err-push
+returns-in_err-push g c =
     let moved = c.in_ok-advance.ensures in
-    let same = c.conn-in_err-push-1.given.1
-    (sym (moved.same_reference ∙ c.rows.invariant.same_reference
-    ∙ c.in_ok-shown.ensures.same_reference)) ∙ c.drop-shown-in_err-push.ensures in
-    rw same (stepped_spares g.S.Store c.args.sql.now [] c.requires.plain _
-    c.args.conn.now c.rows.shown.conn.now c.advance.new.self.conn.now c.rows.invariant.so_far
-    moved.mode moved.survives)
+    let it = stopped c.requires.plain c.rows.invariant.so_far c.advance.new.self.conn.now moved.mode
+    moved.survives (λ sure. inl (moved.same sure)) in
+    let err = (err_from_is_err_and c.from_residual-in_err-push.result
+    c.from_residual-in_err-push.ensures.1).1 in
+    rw (c.conn-in_err-push-1.given.1 (sym (moved.same_reference ∙ c.rows.invariant.same_reference
+    ∙ c.in_ok-shown.ensures.same_reference)) ∙ c.drop-shown-in_err-push.ensures) (record {
+      leaves = it.0;
+      spares = it.1;
+      opened = λ clean. rw err tt;
+      rows = λ clean. rw err tt;
+    })
 
-pub returns-in_default-clause-spares : goal.returns-in_default-clause-spares
-returns-in_default-clause-spares g c =
+pub returns-in_default : goal.returns-in_default
+returns-in_default g c =
+    let now = c.advance.new.self.conn.now in
     let moved = c.in_ok-advance.ensures in
-    let same = c.conn-in_default-1.given.1
-    (sym (moved.same_reference ∙ c.rows.invariant.same_reference
-    ∙ c.in_ok-shown.ensures.same_reference)) ∙ c.drop-shown-in_default.ensures in
-    rw same (stepped_spares g.S.Store c.args.sql.now [] c.requires.plain _
-    c.args.conn.now c.rows.shown.conn.now c.advance.new.self.conn.now c.rows.invariant.so_far
-    moved.mode moved.survives)
+    let it = stopped c.requires.plain c.rows.invariant.so_far now moved.mode moved.survives
+    (λ sure. inl (moved.same sure)) in
+    let none : row_if c.advance.new.self.has_row now ≡ None =
+    sym (rw c.in_default.is at c.get.ensures) in
+    rw (c.conn-in_default-1.given.1 (sym (moved.same_reference ∙ c.rows.invariant.same_reference
+    ∙ c.in_ok-shown.ensures.same_reference)) ∙ c.drop-shown-in_default.ensures) (record {
+      leaves = it.0;
+      spares = it.1;
+      opened = λ clean. (moved.same clean).0.is_open;
+      rows = λ clean has. let out = ended c.requires.plain c.rows.invariant.so_far now moved.mode moved.survives
+          (λ sure. subst (λ (r : Option Row). Advances g.S.Store c.rows.shown.conn.now now r) none
+          (moved.ok sure)) clean has in
+          (out.0, out.1, out.2.0, out.2.1);
+    })
 
-pub returns-clause-spares : goal.returns-clause-spares
-returns-clause-spares g c =
-    rw (c.conn-2-1.given.1
-    (sym (c.rows.invariant.same_reference ∙ c.in_ok-shown.ensures.same_reference))
-    ∙ c.drop-shown-2.ensures) c.rows.invariant.so_far.spares
+pub returns : goal.returns
+returns g c =
+    rw (c.conn-2-1.given.1 (sym (c.rows.invariant.same_reference
+    ∙ c.in_ok-shown.ensures.same_reference)) ∙ c.drop-shown-2.ensures) (record {
+      leaves = c.rows.invariant.so_far.leaves;
+      spares = c.rows.invariant.so_far.spares;
+      opened = λ clean. tt;
+      rows = λ clean. tt;
+    })
