@@ -1,6 +1,7 @@
 -- What the reads of a ledger's tables show.
 use Rattle.std.proofs.Common.{◌≡◌, ℕ, ℤ, pos, List, [], ◌∷◌, ◌&&◌, Bool, true, false, map, filter}
 use Rattle.std.proofs.Common.{refl, sym, ap, subst, ◌∙◌, int_cmp, int_eq, int_le, Less}
+use Rattle.std.specs.List.{list_all}
 use Rattle.std.specs.List.Sorted.{IsPermutation}
 use Rattle.sqlite_value.specs.declared.keys.Collation.TheVariants.{Binary}
 use Rattle.sqlite_value.specs.declared.value.Value.{Value}
@@ -12,7 +13,8 @@ use Rattle.sqlite_keyed.proofs.ListLemmas.{ascending_weaker}
 use Rattle.sqlite_sql.specs.declared.ops.BinaryOp.TheVariants.{Compare}
 use Rattle.sqlite_sql.specs.declared.ops.CompareOp.TheVariants.{Eq, Ge, Le}
 use Rattle.sqlite_sql.specs.Ops.{binary, is_true}
-use Rattle.sqlite_sql.specs.Query.{IsAnswer, output_cmp}
+use Rattle.sqlite_sql.specs.Term.{Term, holds}
+use Rattle.sqlite_sql.specs.Query.{Query, IsAnswer, output, output_cmp}
 use Rattle.sqlite_sql.specs.Program.{overlay}
 use Rattle.sqlite_typed.proofs.TestLemmas.{at_ints, then_term, last_term}
 use Rattle.sqlite_schema.specs.declared.schema.Schema.{Schema}
@@ -31,12 +33,10 @@ use Rattle.s10_rows.specs.Selected.{is_within}
 use Rattle.s10_statements.specs.Statements.{select_head_sql, select_calls_sql, select_ranges_sql}
 use Rattle.s10_statements.specs.Statements.{select_serials_within_sql, select_serials_sql}
 use Rattle.s10_statements.specs.Statements.{select_closed_sql}
-use Rattle.s10_statements.proofs.Texts.{head_query, head_is, head_plain, head_unlisted, calls_query}
-use Rattle.s10_statements.proofs.Texts.{calls_is, calls_plain, calls_unlisted, ranges_query}
-use Rattle.s10_statements.proofs.Texts.{ranges_is, ranges_plain, ranges_unlisted, within_query}
-use Rattle.s10_statements.proofs.Texts.{within_is, within_plain, within_unlisted, serials_query}
-use Rattle.s10_statements.proofs.Texts.{serials_is, serials_plain, serials_unlisted, closed_query}
-use Rattle.s10_statements.proofs.Texts.{closed_is, closed_plain, closed_unlisted}
+use Rattle.s10_statements.proofs.Texts.{read_of, IsQuery, by_one, by_pair, head_terms, head_read}
+use Rattle.s10_statements.proofs.Texts.{call_terms, calls_query, calls_read, range_terms}
+use Rattle.s10_statements.proofs.Texts.{ranges_read, within_tests, serial_terms, within_read}
+use Rattle.s10_statements.proofs.Texts.{wide_terms, serials_read, closed_terms, closed_read}
 use Rattle.s10_statements.proofs.ReadLemmas.{kept_are, rows_are, rows_rise, selected}
 
 -- Values that are read back.
@@ -116,158 +116,127 @@ all_pass : (vs : List Row) → filter always vs ≡ vs
 all_pass [] = refl
 all_pass (v ∷ vs) = ap (λ l. v ∷ l) (all_pass vs)
 
+-- A read of one table. The columns shown are these of a stored row, their first ones are the key,
+-- and the test is one of them.
+module _ {schema : Schema} {sql : List ℕ} {names : List (List ℕ)} (tree : ℕ)
+    (tests project order : List Term) (read : IsQuery schema sql (read_of tree tests project order)
+    names) (params : Row) (old new : State) (rows : List Row) (has : old.now.schema ≡ schema)
+    (h : Shown sql params old new rows) where
+  abbrev query : Query
+  query = read_of tree tests project order
+
+  -- The stored rows of the table.
+  abbrev raw : List Row
+  raw = overlay old.now.trees [] tree
+
+  pub answers : IsAnswer query (overlay old.now.trees []) params rows
+  answers = (reads_as sql params old new schema has _ read.is read.plain read.unlisted rows h).answer
+      Null
+
+  module _ (columns key : Row → Row) (test : Row → Bool)
+      (outs : (r : Row) → output query (params ∷ r ∷ []) ≡ (key (columns r), columns r))
+      (pass : (r : Row) → list_all (holds (params ∷ r ∷ [])) tests ≡ test (columns r)) where
+    pub shows_passing : IsPermutation (filter test (map columns raw)) rows
+    shows_passing =
+        let a = answers in
+        rows_are params query raw columns key test outs pass a.kept a.ordered rows
+        (kept_are params query raw columns key test outs pass a.staged a.kept
+        a.grouped a.distinct) a.same a.shown
+
+    -- Rows in the order of a rank, which the first column shows.
+    pub rises : {X : Type 0} (shown : X → Row) (rank : X → ℤ)
+        → ((a b : X) → int_cmp (rank a) (rank b) ≡ Less
+        → output_cmp query (key (shown a), shown a) (key (shown b), shown b) ≡ Less)
+        → (xs : List X) → IsAscending (λ a b. int_cmp (rank a) (rank b) ≡ Less) xs
+        → IsPermutation (map shown xs) (filter test (map columns raw))
+        → rows ≡ map shown xs
+    rises shown rank less xs up same =
+        let a = answers in
+        rows_rise params query raw columns key test outs pass shown xs
+        (ascending_weaker _ (λ a b. output_cmp query (key (shown a), shown a)
+        (key (shown b), shown b) ≡ Less) less xs up) same a.kept a.ordered rows
+        (kept_are params query raw columns key test outs pass a.staged a.kept
+        a.grouped a.distinct) a.same a.sorted a.shown
+
+-- One number is less than another if its value is.
+value_less : (a b : ℤ) → int_cmp a b ≡ Less → value_cmp (Int a) (Int b) ≡ Less
+value_less a b less = value_cmp-Int a b ∙ less
+
 module _ (params : Row) (old new : State) (rows : List Row)
     (has : IsLedgerSchema old.now.schema) where
   abbrev o : Schema
   o = others_in old.now.schema
 
-  head_answers : Shown select_head_sql params old new rows
-      → IsAnswer head_query (overlay old.now.trees []) params rows
-  head_answers h = (reads_as select_head_sql params old new (with_others o) has.is _ (head_is o)
-      (head_plain o) (head_unlisted o) rows h).answer Null
-
   pub head_shows : Shown select_head_sql params old new rows
       → IsPermutation (map head_columns (old.now.trees 0)) rows
-  head_shows h =
-      let a = head_answers h in
-      subst (λ vs. IsPermutation vs rows) (all_pass (map head_columns (old.now.trees 0)))
-      (rows_are params head_query (old.now.trees 0) head_columns first_key always (λ r. refl)
-      (λ r. refl) a.kept a.ordered rows
-      (kept_are params head_query (old.now.trees 0) head_columns first_key always (λ r. refl)
-      (λ r. refl) a.staged a.kept a.grouped a.distinct) a.same a.shown)
+  head_shows h = subst (λ vs. IsPermutation vs rows) (all_pass (map head_columns (old.now.trees 0)))
+      (shows_passing 0 [] head_terms by_one (head_read o) params old new rows has.is h head_columns first_key
+      always (λ r. refl) (λ r. refl))
 
   pub calls_answers : Shown select_calls_sql params old new rows
       → IsAnswer calls_query (overlay old.now.trees []) params rows
-  calls_answers h = (reads_as select_calls_sql params old new (with_others o) has.is _ (calls_is o)
-      (calls_plain o) (calls_unlisted o) rows h).answer Null
+  calls_answers h = answers 1 [] call_terms by_one (calls_read o) params old new rows has.is h
 
   pub calls_shows : Shown select_calls_sql params old new rows
       → IsPermutation (map call_columns (old.now.trees 1)) rows
-  calls_shows h =
-      let a = calls_answers h in
-      subst (λ vs. IsPermutation vs rows) (all_pass (map call_columns (old.now.trees 1)))
-      (rows_are params calls_query (old.now.trees 1) call_columns first_key always (λ r. refl)
-      (λ r. refl) a.kept a.ordered rows
-      (kept_are params calls_query (old.now.trees 1) call_columns first_key always (λ r. refl)
-      (λ r. refl) a.staged a.kept a.grouped a.distinct) a.same a.shown)
-
-  ranges_answers : Shown select_ranges_sql params old new rows
-      → IsAnswer ranges_query (overlay old.now.trees []) params rows
-  ranges_answers h =
-      (reads_as select_ranges_sql params old new (with_others o) has.is _ (ranges_is o)
-      (ranges_plain o) (ranges_unlisted o) rows h).answer Null
+  calls_shows h = subst (λ vs. IsPermutation vs rows) (all_pass (map call_columns (old.now.trees 1)))
+      (shows_passing 1 [] call_terms by_one (calls_read o) params old new rows has.is h call_columns first_key
+      always (λ r. refl) (λ r. refl))
 
   pub ranges_shows : Shown select_ranges_sql params old new rows
       → IsPermutation (map range_columns (old.now.trees 3)) rows
-  ranges_shows h =
-      let a = ranges_answers h in
-      subst (λ vs. IsPermutation vs rows) (all_pass (map range_columns (old.now.trees 3)))
-      (rows_are params ranges_query (old.now.trees 3) range_columns first_key always (λ r. refl)
-      (λ r. refl) a.kept a.ordered rows
-      (kept_are params ranges_query (old.now.trees 3) range_columns first_key always (λ r. refl)
-      (λ r. refl) a.staged a.kept a.grouped a.distinct) a.same a.shown)
-
-  within_answers : Shown select_serials_within_sql params old new rows
-      → IsAnswer within_query (overlay old.now.trees []) params rows
-  within_answers h = (reads_as select_serials_within_sql params old new (with_others o) has.is _
-      (within_is o) (within_plain o) (within_unlisted o) rows h).answer Null
+  ranges_shows h = subst (λ vs. IsPermutation vs rows) (all_pass (map range_columns (old.now.trees 3)))
+      (shows_passing 3 [] range_terms by_one (ranges_read o) params old new rows has.is h range_columns first_key
+      always (λ r. refl) (λ r. refl))
 
   pub within_shows : Shown select_serials_within_sql params old new rows
       → IsPermutation (filter (within_test params) (map serial_columns (old.now.trees 4))) rows
-  within_shows h =
-      let a = within_answers h in
-      rows_are params within_query (old.now.trees 4) serial_columns pair_key (within_test params)
-      (λ r. refl) (λ r. refl) a.kept a.ordered rows
-      (kept_are params within_query (old.now.trees 4) serial_columns pair_key (within_test params)
-      (λ r. refl) (λ r. refl) a.staged a.kept a.grouped a.distinct) a.same a.shown
-
-  serials_answers : Shown select_serials_sql params old new rows
-      → IsAnswer serials_query (overlay old.now.trees []) params rows
-  serials_answers h =
-      (reads_as select_serials_sql params old new (with_others o) has.is _ (serials_is o)
-      (serials_plain o) (serials_unlisted o) rows h).answer Null
+  within_shows h = shows_passing 4 within_tests serial_terms by_pair (within_read o) params old new
+      rows has.is h serial_columns pair_key (within_test params) (λ r. refl) (λ r. refl)
 
   pub serials_shows : Shown select_serials_sql params old new rows
       → IsPermutation (map wide_columns (old.now.trees 4)) rows
-  serials_shows h =
-      let a = serials_answers h in
-      subst (λ vs. IsPermutation vs rows) (all_pass (map wide_columns (old.now.trees 4)))
-      (rows_are params serials_query (old.now.trees 4) wide_columns pair_key always (λ r. refl)
-      (λ r. refl) a.kept a.ordered rows
-      (kept_are params serials_query (old.now.trees 4) wide_columns pair_key always (λ r. refl)
-      (λ r. refl) a.staged a.kept a.grouped a.distinct) a.same a.shown)
+  serials_shows h = subst (λ vs. IsPermutation vs rows) (all_pass (map wide_columns (old.now.trees 4)))
+      (shows_passing 4 [] wide_terms by_pair (serials_read o) params old new rows has.is h wide_columns pair_key
+      always (λ r. refl) (λ r. refl))
 
   -- Rows of calls in order of arrival.
-  pub calls_rise : (xs : List StoredCall) → IsAscending (λ a b. int_cmp a.arrival b.arrival ≡ Less)
-      xs → IsPermutation (map shown_call xs) (map call_columns (old.now.trees 1))
+  pub calls_rise : (xs : List StoredCall) → IsAscending (λ a b. int_cmp a.arrival b.arrival ≡ Less) xs
+      → IsPermutation (map shown_call xs) (map call_columns (old.now.trees 1))
       → Shown select_calls_sql params old new rows → rows ≡ map shown_call xs
-  calls_rise xs up same h =
-      let a = calls_answers h in
-      rows_rise params calls_query (old.now.trees 1) call_columns first_key always (λ r. refl)
-      (λ r. refl) shown_call xs
-      (ascending_weaker _ (λ a b. output_cmp calls_query (first_key (shown_call a), shown_call a)
-      (first_key (shown_call b), shown_call b) ≡ Less)
-      (λ a b less. let e : value_cmp (Int a.arrival) (Int b.arrival) ≡ Less = value_cmp-Int
-      a.arrival b.arrival ∙ less in rw e) xs up)
-      (subst (IsPermutation (map shown_call xs))
-      (sym (all_pass (map call_columns (old.now.trees 1)))) same) a.kept a.ordered rows
-      (kept_are params calls_query (old.now.trees 1) call_columns first_key always (λ r. refl)
-      (λ r. refl) a.staged a.kept a.grouped a.distinct) a.same a.sorted a.shown
+  calls_rise xs up same h = rises 1 [] call_terms by_one (calls_read o) params old new rows has.is h
+      call_columns first_key always (λ r. refl) (λ r. refl) shown_call (λ x. x.arrival)
+      (λ a b less. rw (value_less a.arrival b.arrival less)) xs up
+      (subst (IsPermutation (map shown_call xs)) (sym (all_pass (map call_columns (old.now.trees 1)))) same)
 
   -- Rows of ranges in order of their numbers.
   pub ranges_rise : (xs : List RangeRow) → IsAscending (λ a b. int_cmp a.num b.num ≡ Less) xs
       → IsPermutation (map shown_range xs) (map range_columns (old.now.trees 3))
       → Shown select_ranges_sql params old new rows → rows ≡ map shown_range xs
-  ranges_rise xs up same h =
-      let a = ranges_answers h in
-      rows_rise params ranges_query (old.now.trees 3) range_columns first_key always (λ r. refl)
-      (λ r. refl) shown_range xs
-      (ascending_weaker _ (λ a b. output_cmp ranges_query (first_key (shown_range a), shown_range a)
-      (first_key (shown_range b), shown_range b) ≡ Less)
-      (λ a b less. let e : value_cmp (Int a.num) (Int b.num) ≡ Less = value_cmp-Int a.num b.num
-      ∙ less in rw e) xs up)
-      (subst (IsPermutation (map shown_range xs))
-      (sym (all_pass (map range_columns (old.now.trees 3)))) same) a.kept a.ordered rows
-      (kept_are params ranges_query (old.now.trees 3) range_columns first_key always (λ r. refl)
-      (λ r. refl) a.staged a.kept a.grouped a.distinct) a.same a.sorted a.shown
+  ranges_rise xs up same h = rises 3 [] range_terms by_one (ranges_read o) params old new rows has.is h
+      range_columns first_key always (λ r. refl) (λ r. refl) shown_range (λ x. x.num)
+      (λ a b less. rw (value_less a.num b.num less)) xs up
+      (subst (IsPermutation (map shown_range xs)) (sym (all_pass (map range_columns (old.now.trees 3)))) same)
 
 module _ (params : Row) (old new : State) (rows : List Row)
     (has : IsClosedSchema old.now.schema) where
-  closed_answers : Shown select_closed_sql params old new rows
-      → IsAnswer closed_query (overlay old.now.trees []) params rows
-  closed_answers h =
-      let o : Schema = others_after_closed old.now.schema in
-      (reads_as select_closed_sql params old new (with_closed o) has.is _ (closed_is o)
-      (closed_plain o) (closed_unlisted o) rows h).answer Null
+  abbrev after : Schema
+  after = others_after_closed old.now.schema
 
   pub closed_shows : Shown select_closed_sql params old new rows
       → IsPermutation (map closed_columns (old.now.trees 6)) rows
-  closed_shows h =
-      let a = closed_answers h in
-      subst (λ vs. IsPermutation vs rows) (all_pass (map closed_columns (old.now.trees 6)))
-      (rows_are params closed_query (old.now.trees 6) closed_columns first_key always
-      (λ r. refl) (λ r. refl) a.kept a.ordered rows
-      (kept_are params closed_query (old.now.trees 6) closed_columns first_key always (λ r. refl)
-      (λ r. refl) a.staged a.kept a.grouped a.distinct) a.same a.shown)
+  closed_shows h = subst (λ vs. IsPermutation vs rows) (all_pass (map closed_columns (old.now.trees 6)))
+      (shows_passing 6 [] closed_terms by_one (closed_read after) params old new rows has.is h closed_columns first_key
+      always (λ r. refl) (λ r. refl))
 
   -- Rows of closed in order of the numbers of their ranges.
   pub closed_rise : (xs : List ClosedRow) → IsAscending (λ a b. int_cmp a.num b.num ≡ Less) xs
       → IsPermutation (map shown_closed xs) (map closed_columns (old.now.trees 6))
       → Shown select_closed_sql params old new rows → rows ≡ map shown_closed xs
-  closed_rise xs up same h =
-      let a = closed_answers h in
-      rows_rise params closed_query (old.now.trees 6) closed_columns first_key always (λ r. refl)
-      (λ r. refl) shown_closed xs
-      (ascending_weaker _ (λ a b. output_cmp closed_query (
-        first_key (shown_closed a),
-        shown_closed a,
-      ) (first_key (shown_closed b), shown_closed b) ≡ Less)
-      (λ a b less. let e : value_cmp (Int a.num) (Int b.num) ≡ Less = value_cmp-Int a.num b.num
-      ∙ less in rw e) xs up)
-      (subst (IsPermutation (map shown_closed xs))
-      (sym (all_pass (map closed_columns (old.now.trees 6)))) same) a.kept a.ordered rows
-      (kept_are params closed_query (old.now.trees 6) closed_columns first_key always (λ r. refl)
-      (λ r. refl) a.staged a.kept a.grouped a.distinct) a.same a.sorted a.shown
+  closed_rise xs up same h = rises 6 [] closed_terms by_one (closed_read after) params old new rows has.is h
+      closed_columns first_key always (λ r. refl) (λ r. refl) shown_closed (λ x. x.num)
+      (λ a b less. rw (value_less a.num b.num less)) xs up
+      (subst (IsPermutation (map shown_closed xs)) (sym (all_pass (map closed_columns (old.now.trees 6)))) same)
 
 -- Typed rows.
 

@@ -30,31 +30,18 @@ use Rattle.s10_statements.specs.Shown.{call_columns, HasIntegerRowid, shown_rang
 use Rattle.s10_statements.specs.Shown.{shown_serial, serial_columns, shown_closed, closed_columns}
 use Rattle.s10_statements.specs.Statements.{insert_head_sql, insert_call_sql, insert_range_sql}
 use Rattle.s10_statements.specs.Statements.{insert_serial_sql, insert_closed_sql}
+use Rattle.s10_statements.proofs.WriteTexts.{IsCommand, settings_means, keep_means, grant_means}
+use Rattle.s10_statements.proofs.WriteTexts.{issue_means, close_means}
 use Rattle.s10_statements.proofs.Apart.{no_works, not_head, is_as_it_was, after_apart, not_calls}
 use Rattle.s10_statements.proofs.Apart.{not_ranges, not_serials, no_works_closed}
 use Rattle.s10_statements.proofs.PutLemmas.{cast_int, cast_null, went, same_value, put_one}
 use Rattle.std.proofs.lemmas.List.Sorted.{IsPermutation-map, IsPermutation-trans}
 use Rattle.std.proofs.lemmas.List.Sorted.{IsPermutation-cons, IsPermutation-to_front}
 use Rattle.s10_rows.specs.CallRow.{StoredCall}
-use Rattle.s10_statements.proofs.WriteTexts.{keep_terms, keep_is, keep_plain, grant_terms}
-use Rattle.s10_statements.proofs.WriteTexts.{grant_is, grant_plain, issue_terms, issue_is}
-use Rattle.s10_statements.proofs.WriteTexts.{issue_plain, close_terms, close_is, close_plain}
 use Rattle.s10_rows.specs.declared.range_row.RangeRow.{RangeRow}
 use Rattle.s10_rows.specs.declared.serial_row.SerialRow.{SerialRow}
 use Rattle.s10_statements.proofs.GoneLemmas.{all_moved}
 use Rattle.s10_rows.specs.declared.closed_row.ClosedRow.{ClosedRow}
-
-abbrev settings_terms : List Term
-settings_terms = lit (Int (pos 1)) ∷ lit Null ∷ lit (Int (pos 1)) ∷ col 0 0 ∷ col 0 1 ∷ []
-
-settings_is : (o : Schema) → command_of (understood (with_others o) insert_head_sql)
-    ≡ Insert 0 (Values settings_terms 5)
-unfolding understood everything
-settings_is o = refl
-
-settings_plain : (o : Schema) → IsPlain (understood (with_others o) insert_head_sql)
-unfolding understood everything
-settings_plain o = (refl, refl)
 
 -- The row of the settings as it is stored, and the parameters of the statement.
 abbrev stored_head : Terms → Row
@@ -93,6 +80,21 @@ one_more {X} shown columns xs x old new row is put has =
     IsPermutation-trans _ _ _ turned
     (IsPermutation-trans _ _ _ longer (IsPermutation-map columns (row ∷ old) new put))
 
+-- An INSERT that ran, under the schema of a ledger.
+inserted : {sql : List ℕ} {at width : ℕ} {terms : List Term} (o : Schema) (params : Row)
+    (old new : State) (count : ℕ) → IsCommand (with_closed o) sql (Insert at (Values terms width))
+    → old.now.schema ≡ with_closed o → Executes sql params old new (Ok count)
+    → (tally : Tally) × Does old.step_limit (mode_of old) params
+    (record old.now { schema = with_closed o })
+    (statement_of sql (understood (with_closed o) sql)) None (Insert at (Values terms width))
+    (Ok (tally, new.now))
+inserted {sql} {at} {width} {terms} o params old new count means has h =
+    let command = Insert at (Values terms width) in
+    let w = runs_as sql params old new (with_closed o) has command means.is means.plain count h in
+    (w.tally, subst (λ s. Does old.step_limit (mode_of old) params (record old.now { schema = s })
+    (statement_of sql (understood (with_closed o) sql)) None command (Ok (w.tally, new.now))) has
+    w.changed)
+
 pub begins : (old new : State) (t : Terms) (count : ℕ) (tables : Tables) → HasTables old.now tables
     → Executes insert_head_sql (given_settings t) old new (Ok count)
     → HasTables new.now (record tables { heads = tables.heads ++ (head_row t) ∷ [] })
@@ -101,13 +103,7 @@ begins old new t count tables held h =
     let db = old.now.trees in
     let has = held.schema.is in
     let o = others_after_closed old.now.schema in
-    let command = Insert 0 (Values settings_terms 5) in
-    let w = runs_as insert_head_sql params old new (with_closed o) has command
-    (settings_is (closed_first o)) (settings_plain (closed_first o)) count h in
-    let text = statement_of insert_head_sql (understood (with_closed o) insert_head_sql) in
-    let done = went
-    (subst (λ s. Does old.step_limit (mode_of old) params (record old.now { schema = s }) text
-    None command (Ok (w.tally, new.now))) has w.changed) in
+    let done = went (inserted o params old new count (settings_means o) has h).1 in
     let now = ap (λ (p : Tally × Database). p.1) (same_value (went (went done.2).2).2) in
     let given = went done.1 in
     let written = went (went given.2).2 in
@@ -141,13 +137,7 @@ as_declared old new t count tables held h =
     let params = given_settings t in
     let has = held.schema.is in
     let o = others_after_closed old.now.schema in
-    let command = Insert 0 (Values settings_terms 5) in
-    let w = runs_as insert_head_sql params old new (with_closed o) has command
-    (settings_is (closed_first o)) (settings_plain (closed_first o)) count h in
-    let text = statement_of insert_head_sql (understood (with_closed o) insert_head_sql) in
-    let done = went
-    (subst (λ s. Does old.step_limit (mode_of old) params (record old.now { schema = s }) text
-    None command (Ok (w.tally, new.now))) has w.changed) in
+    let done = went (inserted o params old new count (settings_means o) has h).1 in
     let now = ap (λ (p : Tally × Database). p.1) (same_value (went (went done.2).2).2) in
     ap (λ (d : Database). d.schema) now ∙ sym has
 
@@ -159,13 +149,7 @@ keeps old new call count tables held h =
     let db = old.now.trees in
     let has = held.schema.is in
     let o = others_after_closed old.now.schema in
-    let command = Insert 1 (Values keep_terms 6) in
-    let w = runs_as insert_call_sql params old new (with_closed o) has command
-    (keep_is (closed_first o)) (keep_plain (closed_first o)) count h in
-    let text = statement_of insert_call_sql (understood (with_closed o) insert_call_sql) in
-    let done = went
-    (subst (λ s. Does old.step_limit (mode_of old) params (record old.now { schema = s }) text
-    None command (Ok (w.tally, new.now))) has w.changed) in
+    let done = went (inserted o params old new count (keep_means o) has h).1 in
     let now = ap (λ (p : Tally × Database). p.1) (same_value (went (went done.2).2).2) in
     let given = went done.1 in
     let written = went (went given.2).2 in
@@ -199,13 +183,7 @@ adds_range old new r count tables held h =
     let db = old.now.trees in
     let has = held.schema.is in
     let o = others_after_closed old.now.schema in
-    let command = Insert 2 (Values grant_terms 7) in
-    let w = runs_as insert_range_sql params old new (with_closed o) has command
-    (grant_is (closed_first o)) (grant_plain (closed_first o)) count h in
-    let text = statement_of insert_range_sql (understood (with_closed o) insert_range_sql) in
-    let done = went
-    (subst (λ s. Does old.step_limit (mode_of old) params (record old.now { schema = s }) text
-    None command (Ok (w.tally, new.now))) has w.changed) in
+    let done = went (inserted o params old new count (grant_means o) has h).1 in
     let now = ap (λ (p : Tally × Database). p.1) (same_value (went (went done.2).2).2) in
     let given = went done.1 in
     let written = went (went given.2).2 in
@@ -239,13 +217,7 @@ adds_serial old new r count tables held h =
     let db = old.now.trees in
     let has = held.schema.is in
     let o = others_after_closed old.now.schema in
-    let command = Insert 3 (Values issue_terms 8) in
-    let w = runs_as insert_serial_sql params old new (with_closed o) has command
-    (issue_is (closed_first o)) (issue_plain (closed_first o)) count h in
-    let text = statement_of insert_serial_sql (understood (with_closed o) insert_serial_sql) in
-    let done = went
-    (subst (λ s. Does old.step_limit (mode_of old) params (record old.now { schema = s }) text
-    None command (Ok (w.tally, new.now))) has w.changed) in
+    let done = went (inserted o params old new count (issue_means o) has h).1 in
     let now = ap (λ (p : Tally × Database). p.1) (same_value (went (went done.2).2).2) in
     let given = went done.1 in
     let written = went (went given.2).2 in
@@ -280,13 +252,7 @@ closes old new r count tables held h =
     let db = old.now.trees in
     let has = held.schema.is in
     let o = others_after_closed old.now.schema in
-    let command = Insert 4 (Values close_terms 3) in
-    let w = runs_as insert_closed_sql params old new (with_closed o) has command
-    (close_is o) (close_plain o) count h in
-    let text = statement_of insert_closed_sql (understood (with_closed o) insert_closed_sql) in
-    let done = went
-    (subst (λ s. Does old.step_limit (mode_of old) params (record old.now { schema = s }) text
-    None command (Ok (w.tally, new.now))) has w.changed) in
+    let done = went (inserted o params old new count (close_means o) has h).1 in
     let now = ap (λ (p : Tally × Database). p.1) (same_value (went (went done.2).2).2) in
     let given = went done.1 in
     let written = went (went given.2).2 in

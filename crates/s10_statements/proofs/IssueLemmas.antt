@@ -54,7 +54,7 @@ use Rattle.s10_rows.specs.Tables.{Tables}
 use Rattle.s10_rows.specs.RowWrites.{is_at, with_serial}
 use Rattle.s10_statements.specs.Shown.{HasTables, shown_serial, serial_columns, HasIntegerRowid}
 use Rattle.s10_statements.specs.Statements.{upsert_serial_sql}
-use Rattle.s10_statements.proofs.WriteTexts.{issue_terms, again_is, again_plain, issue_upsert}
+use Rattle.s10_statements.proofs.WriteTexts.{issue_terms, again_means, issue_upsert}
 use Rattle.s10_statements.proofs.WriteTexts.{update_query}
 use Rattle.s10_statements.proofs.Apart.{no_works, none_shares, not_serials, is_as_it_was}
 use Rattle.s10_statements.proofs.Apart.{after_apart}
@@ -506,7 +506,7 @@ issues old new r tables held few h =
     let o = others_after_closed old.now.schema in
     let command = InsertOr 3 Abort (Values issue_terms 8) (issue_upsert ∷ []) in
     let w = runs_as upsert_serial_sql params old new (with_closed o) has command
-    (again_is (closed_first o)) (again_plain (closed_first o)) 1 h in
+    (again_means o).is (again_means o).plain 1 h in
     let text = statement_of upsert_serial_sql (understood (with_closed o) upsert_serial_sql) in
     let does = subst (λ s. Does old.step_limit (mode_of old) params (record old.now { schema = s })
     text None command (Ok (w.tally, new.now))) has w.changed in

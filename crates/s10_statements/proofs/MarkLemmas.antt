@@ -43,7 +43,7 @@ use Rattle.s10_rows.specs.RowWrites.{marked}
 use Rattle.s10_rows.proofs.Replaced.{map_twice, same_images, rest_same}
 use Rattle.s10_statements.specs.Shown.{HasTables, shown_range, range_columns, HasIntegerRowid}
 use Rattle.s10_statements.specs.Statements.{update_mark_sql}
-use Rattle.s10_statements.proofs.WriteTexts.{mark_query, mark_is, mark_plain}
+use Rattle.s10_statements.proofs.WriteTexts.{mark_query, mark_means}
 use Rattle.s10_statements.proofs.Apart.{no_works, not_ranges, is_as_it_was, after_apart}
 use Rattle.s10_statements.proofs.ReadLemmas.{kept_are, rows_are}
 use Rattle.s10_statements.proofs.PutLemmas.{cast_int, cast_null, went, same_value, Spares, put_one}
@@ -269,7 +269,7 @@ marks old new num mark tables held h =
     let o = others_after_closed old.now.schema in
     let command = Update 2 (record { lets = []; body = mark_query }) in
     let w = runs_as update_mark_sql params old new (with_closed o) has command
-    (mark_is (closed_first o)) (mark_plain (closed_first o)) 1 h in
+    (mark_means o).is (mark_means o).plain 1 h in
     let text = statement_of update_mark_sql (understood (with_closed o) update_mark_sql) in
     let done = went
     (subst (λ s. Does old.step_limit (mode_of old) params (record old.now { schema = s }) text

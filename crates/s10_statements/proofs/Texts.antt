@@ -33,6 +33,13 @@ read_of tree filter project order = record {
   offset = lit (Int (pos 0));
 }
 
+-- Under the schema the text is this query, and it reads no declarations.
+pub record IsQuery (schema : Schema) (sql : List ℕ) (query : Query) (names : List (List ℕ)) : Type 0
+    where
+  pub is : command_of (understood schema sql) ≡ Select (record { lets = []; body = query }) names
+  pub plain : IsPlain (understood schema sql)
+  pub unlisted : reads_listing schema sql ≡ false
+
 abbrev pub by_one : List Term
 by_one = col 1 0 ∷ []
 
@@ -56,107 +63,66 @@ abbrev pub serial_names : List (List ℕ)
 serial_names = codes "pair" ∷ codes "serial" ∷ codes "arrival" ∷ codes "day" ∷ codes "customer"
     ∷ codes "number" ∷ codes "voided" ∷ []
 
+abbrev pub head_terms : List Term
+head_terms = col 1 0 ∷ col 1 2 ∷ col 1 3 ∷ col 1 4 ∷ []
+
 abbrev pub head_query : Query
-head_query = read_of 0 [] (col 1 0 ∷ col 1 2 ∷ col 1 3 ∷ col 1 4 ∷ []) by_one
+head_query = read_of 0 [] head_terms by_one
 
-pub head_is : (o : Schema) → command_of (understood (with_others o) select_head_sql)
-    ≡ Select (record { lets = []; body = head_query }) (codes "one" ∷ codes "schema"
-    ∷ codes "interval" ∷ codes "cap" ∷ [])
+pub head_read : (o : Schema) → IsQuery (with_others o) select_head_sql head_query (codes "one" ∷ codes "schema" ∷ codes "interval" ∷ codes "cap" ∷ [])
 unfolding understood everything
-head_is o = refl
-
-pub head_plain : (o : Schema) → IsPlain (understood (with_others o) select_head_sql)
-unfolding understood everything
-head_plain o = (refl, refl)
-
-pub head_unlisted : (o : Schema) → reads_listing (with_others o) select_head_sql ≡ false
-unfolding understood everything
-head_unlisted o = refl
+head_read o = record { is = refl; plain = (refl, refl); unlisted = refl }
 
 abbrev pub calls_query : Query
 calls_query = read_of 1 [] call_terms by_one
 
-pub calls_is : (o : Schema) → command_of (understood (with_others o) select_calls_sql)
-    ≡ Select (record { lets = []; body = calls_query }) (call_names)
+pub calls_read : (o : Schema) → IsQuery (with_others o) select_calls_sql calls_query call_names
 unfolding understood everything
-calls_is o = refl
+calls_read o = record { is = refl; plain = (refl, refl); unlisted = refl }
 
-pub calls_plain : (o : Schema) → IsPlain (understood (with_others o) select_calls_sql)
-unfolding understood everything
-calls_plain o = (refl, refl)
-
-pub calls_unlisted : (o : Schema) → reads_listing (with_others o) select_calls_sql ≡ false
-unfolding understood everything
-calls_unlisted o = refl
+abbrev pub range_terms : List Term
+range_terms = col 1 0 ∷ col 1 2 ∷ col 1 3 ∷ col 1 4 ∷ col 1 5 ∷ col 1 6 ∷ []
 
 abbrev pub ranges_query : Query
-ranges_query = read_of 3 [] (col 1 0 ∷ col 1 2 ∷ col 1 3 ∷ col 1 4 ∷ col 1 5 ∷ col 1 6 ∷ []) by_one
+ranges_query = read_of 3 [] range_terms by_one
 
-pub ranges_is : (o : Schema) → command_of (understood (with_others o) select_ranges_sql)
-    ≡ Select (record { lets = []; body = ranges_query }) (codes "num" ∷ codes "holder"
-    ∷ codes "pair" ∷ codes "low" ∷ codes "high" ∷ codes "mark" ∷ [])
+pub ranges_read : (o : Schema) → IsQuery (with_others o) select_ranges_sql ranges_query (codes "num" ∷ codes "holder" ∷ codes "pair" ∷ codes "low" ∷ codes "high" ∷ codes "mark" ∷ [])
 unfolding understood everything
-ranges_is o = refl
+ranges_read o = record { is = refl; plain = (refl, refl); unlisted = refl }
 
-pub ranges_plain : (o : Schema) → IsPlain (understood (with_others o) select_ranges_sql)
-unfolding understood everything
-ranges_plain o = (refl, refl)
+abbrev pub by_pair : List Term
+by_pair = col 1 1 ∷ col 1 2 ∷ []
 
-pub ranges_unlisted : (o : Schema) → reads_listing (with_others o) select_ranges_sql ≡ false
-unfolding understood everything
-ranges_unlisted o = refl
+abbrev pub within_tests : List Term
+within_tests = equals 1 0 ∷ from_to 2 1 2
 
 abbrev pub within_query : Query
-within_query = read_of 4 (equals 1 0 ∷ from_to 2 1 2) serial_terms (col 1 1 ∷ col 1 2 ∷ [])
+within_query = read_of 4 within_tests serial_terms by_pair
 
-pub within_is : (o : Schema) → command_of (understood (with_others o) select_serials_within_sql)
-    ≡ Select (record { lets = []; body = within_query }) (serial_names)
+pub within_read : (o : Schema) → IsQuery (with_others o) select_serials_within_sql within_query serial_names
 unfolding understood everything
-within_is o = refl
+within_read o = record { is = refl; plain = (refl, refl); unlisted = refl }
 
-pub within_plain : (o : Schema) → IsPlain (understood (with_others o) select_serials_within_sql)
-unfolding understood everything
-within_plain o = (refl, refl)
-
-pub within_unlisted : (o : Schema) → reads_listing (with_others o) select_serials_within_sql ≡ false
-unfolding understood everything
-within_unlisted o = refl
+abbrev pub wide_terms : List Term
+wide_terms = col 1 1 ∷ col 1 2 ∷ col 1 3 ∷ col 1 4 ∷ col 1 5 ∷ col 1 6 ∷ col 1 7 ∷ col 1 0 ∷ []
 
 abbrev pub serials_query : Query
-serials_query = read_of 4 [] (col 1 1 ∷ col 1 2 ∷ col 1 3 ∷ col 1 4 ∷ col 1 5 ∷ col 1 6 ∷ col 1 7
-    ∷ col 1 0 ∷ []) (col 1 1 ∷ col 1 2 ∷ [])
+serials_query = read_of 4 [] wide_terms by_pair
 
-pub serials_is : (o : Schema) → command_of (understood (with_others o) select_serials_sql)
-    ≡ Select (record { lets = []; body = serials_query }) (codes "pair" ∷ codes "serial"
-    ∷ codes "arrival" ∷ codes "day" ∷ codes "customer" ∷ codes "number" ∷ codes "voided"
-    ∷ codes "rowid" ∷ [])
+pub serials_read : (o : Schema) → IsQuery (with_others o) select_serials_sql serials_query (codes "pair" ∷ codes "serial" ∷ codes "arrival" ∷ codes "day" ∷ codes "customer" ∷ codes "number" ∷ codes "voided" ∷ codes "rowid" ∷ [])
 unfolding understood everything
-serials_is o = refl
+serials_read o = record { is = refl; plain = (refl, refl); unlisted = refl }
 
-pub serials_plain : (o : Schema) → IsPlain (understood (with_others o) select_serials_sql)
-unfolding understood everything
-serials_plain o = (refl, refl)
-
-pub serials_unlisted : (o : Schema) → reads_listing (with_others o) select_serials_sql ≡ false
-unfolding understood everything
-serials_unlisted o = refl
+abbrev pub closed_terms : List Term
+closed_terms = col 1 0 ∷ col 1 2 ∷ []
 
 abbrev pub closed_query : Query
-closed_query = read_of 6 [] (col 1 0 ∷ col 1 2 ∷ []) by_one
+closed_query = read_of 6 [] closed_terms by_one
 
-pub closed_is : (o : Schema) → command_of (understood (with_closed o) select_closed_sql)
-    ≡ Select (record { lets = []; body = closed_query }) (codes "num" ∷ codes "arrival" ∷ [])
+pub closed_read : (o : Schema) → IsQuery (with_closed o) select_closed_sql closed_query (codes "num" ∷ codes "arrival" ∷ [])
 unfolding understood everything
-closed_is o = refl
-
-pub closed_plain : (o : Schema) → IsPlain (understood (with_closed o) select_closed_sql)
-unfolding understood everything
-closed_plain o = (refl, refl)
+closed_read o = record { is = refl; plain = (refl, refl); unlisted = refl }
 
 pub known_closed : (s : Schema) → IsClosedSchema s → IsPlain (understood s select_closed_sql)
 known_closed s has = subst (λ (x : Schema). IsPlain (understood x select_closed_sql)) (sym has.is)
-    (closed_plain (others_after_closed s))
-
-pub closed_unlisted : (o : Schema) → reads_listing (with_closed o) select_closed_sql ≡ false
-unfolding understood everything
-closed_unlisted o = refl
+    (closed_read (others_after_closed s)).plain

@@ -1,13 +1,13 @@
 use Rattle.std.proofs.Common.{[]}
 use Rattle.std.proofs.lemmas.Result.{IfOk-weaker}
 use Rattle.sqlite.specs.Held.{state}
-use Rattle.s10_statements.proofs.Texts.{calls_plain}
+use Rattle.s10_statements.proofs.Texts.{calls_read}
 use Rattle.s10_statements.proofs.FoundLemmas.{calls_found, calls_in_order}
 use Rattle.s10_statements.proofs.ArrivalLemmas.{calls_sorted}
 use Rattle.s10_statements.proofs.reads.all_calls.Goals as goal
 
 pub stream_calls-requires : goal.stream_calls-requires
-stream_calls-requires g c = record { plain = calls_plain }
+stream_calls-requires g c = record { plain = λ o. (calls_read o).plain }
 
 pub returns-clause-rows : goal.returns-clause-rows
 returns-clause-rows g c clean =

@@ -1,12 +1,12 @@
 use Rattle.std.proofs.Common.{[]}
 use Rattle.std.proofs.lemmas.Result.{IfOk-weaker}
 use Rattle.sqlite.specs.Held.{state}
-use Rattle.s10_statements.proofs.Texts.{serials_plain}
+use Rattle.s10_statements.proofs.Texts.{serials_read}
 use Rattle.s10_statements.proofs.FoundLemmas.{serials_found, serials_numbered}
 use Rattle.s10_statements.proofs.reads.all_serials.Goals as goal
 
 pub stream_serials-requires : goal.stream_serials-requires
-stream_serials-requires g c = record { plain = serials_plain }
+stream_serials-requires g c = record { plain = λ o. (serials_read o).plain }
 
 pub returns-clause-rows : goal.returns-clause-rows
 returns-clause-rows g c clean =

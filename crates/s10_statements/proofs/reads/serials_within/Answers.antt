@@ -2,7 +2,7 @@ use Rattle.std.proofs.Common.{pos, ◌∙◌}
 use Rattle.std.proofs.lemmas.Result.{IfOk-weaker}
 use Rattle.sqlite.specs.Held.{state}
 use Rattle.s10_statements.specs.Statements.{select_serials_within_sql}
-use Rattle.s10_statements.proofs.Texts.{within_plain}
+use Rattle.s10_statements.proofs.Texts.{within_read}
 use Rattle.s10_statements.proofs.RowByRow.{known_plain}
 use Rattle.s10_statements.proofs.StateLemmas.{leaves_weaker}
 use Rattle.s10_statements.proofs.FoundLemmas.{within_found}
@@ -10,11 +10,11 @@ use Rattle.s10_statements.proofs.reads.serials_within.Goals as goal
 
 pub returns-in_err-rows-clause-leaves : goal.returns-in_err-rows-clause-leaves
 returns-in_err-rows-clause-leaves g c = leaves_weaker g.S.Store c.args.conn.now c.read.new.conn
-    (known_plain select_serials_within_sql within_plain) c.read.ensures.leaves
+    (known_plain select_serials_within_sql (λ o. (within_read o).plain)) c.read.ensures.leaves
 
 pub returns-clause-leaves : goal.returns-clause-leaves
 returns-clause-leaves g c = leaves_weaker g.S.Store c.args.conn.now c.read.new.conn
-    (known_plain select_serials_within_sql within_plain) c.read.ensures.leaves
+    (known_plain select_serials_within_sql (λ o. (within_read o).plain)) c.read.ensures.leaves
 
 pub returns-clause-rows : goal.returns-clause-rows
 returns-clause-rows g c clean =
@@ -26,10 +26,10 @@ returns-clause-rows g c clean =
 
 pub returns-in_err-rows-clause-spares : goal.returns-in_err-rows-clause-spares
 returns-in_err-rows-clause-spares g c clean has =
-    c.read.ensures.spares clean (known_plain select_serials_within_sql within_plain
+    c.read.ensures.spares clean (known_plain select_serials_within_sql (λ o. (within_read o).plain)
     (state g.S.Store c.args.conn.now).now.schema has)
 
 pub returns-clause-spares : goal.returns-clause-spares
 returns-clause-spares g c clean has =
-    c.read.ensures.spares clean (known_plain select_serials_within_sql within_plain
+    c.read.ensures.spares clean (known_plain select_serials_within_sql (λ o. (within_read o).plain)
     (state g.S.Store c.args.conn.now).now.schema has)
