@@ -8,10 +8,11 @@ ghost use Rattle.std.specs.declared.io.ErrorKind.TheVariants.{InvalidData};
 ghost use Rattle.s10_jobs.specs.declared.job_status.JobStatus.TheVariants.{CommandLine, Failed};
 ghost use Rattle.clap.specs.Words.{Text};
 ghost use Rattle.s10_cli.specs.Jobs.{AsksInWords};
+ghost use Rattle.s10_host.specs.JobResources.{files_in, link_in, looped_in};
 ghost use Rattle.s10.specs.Ends.{RunsWords, RunsJob};
 
 use s10_cli::{LineEnd, flush_buffer, run_buffered};
-use s10_host::{JobResources, run_job};
+use s10_host::{ClosedFiles, JobEnd, JobResources, run_job};
 use s10_jobs::{ClockDays, Days, Job, JobStatus};
 use s10_lines::WriteFault;
 use sqlite::{Start, Unknown};
@@ -50,7 +51,7 @@ struct Ended<S: Start, O> {
     // The output, flushed.
     output: O,
     // The resources of the job, if the words ask for one.
-    left: Option<JobResources<S>>,
+    resources: Option<JobResources<ClosedFiles<S>>>,
 }
 
 // Runs a command line over two streams. Returns the exit status, and how it ended unless the output
@@ -64,13 +65,13 @@ fn run<S: Start, D: Days, W: AsStr, I: Read + Drop, O: Write + Drop>(
     days: &mut D,
 ) -> (u8, Option<Ended<S, O>>)
     ensures status { IfSome result.1 (λ ended. result.0 ≡ ended.status) }
-    ensures ended { IfSome result.1 (λ ended. MatchOption ended.left
+    ensures ended { IfSome result.1 (λ ended. MatchOption ended.resources
         (RunsWords (map W.text words.now) (I.remaining input) (O.contents output)
         (O.contents ended.output) (Some ended.status))
-        (λ left. (between : Option (List ℕ)) × RunsWords (map W.text words.now) (I.remaining input)
+        (λ used. (between : Option (List ℕ)) × RunsWords (map W.text words.now) (I.remaining input)
         (O.contents output) between None
         × RunsJob S.row S.Start D.gives (map W.text words.now) days.old days.new between
-        (O.contents ended.output) ended.status left.files left.link left.looped)) }
+        (O.contents ended.output) ended.status (files_in used) (link_in used) (looped_in used))) }
     ensures failed { result.1 ≡ None → result.0 ≡ 3 }
 {
     match run_streams(rt, words, input, output, start, days) {
@@ -87,30 +88,30 @@ fn run_streams<S: Start, D: Days, W: AsStr, I: Read + Drop, O: Write + Drop>(
     start: S,
     days: &mut D,
 ) -> io::Result<Ended<S, O>>
-    ensures { IfOk result (λ ended. MatchOption ended.left
+    ensures { IfOk result (λ ended. MatchOption ended.resources
         (RunsWords (map W.text words.now) (I.remaining input) (O.contents output)
         (O.contents ended.output) (Some ended.status))
-        (λ left. (between : Option (List ℕ)) × RunsWords (map W.text words.now) (I.remaining input)
+        (λ used. (between : Option (List ℕ)) × RunsWords (map W.text words.now) (I.remaining input)
         (O.contents output) between None
         × RunsJob S.row S.Start D.gives (map W.text words.now) days.old days.new between
-        (O.contents ended.output) ended.status left.files left.link left.looped)) }
+        (O.contents ended.output) ended.status (files_in used) (link_in used) (looped_in used))) }
 {
     let (ended, output) = run_buffered(rt, words, input, output)?;
     match ended {
         LineEnd::Ended(status) => Ok(Ended {
             status,
             output,
-            left: None,
+            resources: None,
         }),
         LineEnd::Asks(job) => {
             let Some(job) = &job else {
                 return Err(io::Error::from(ErrorKind::OutOfMemory));
             };
-            let (status, output, left) = run_asked(rt, job, start, days, output)?;
+            let (status, output, resources) = run_asked(rt, job, start, days, output)?;
             Ok(Ended {
                 status,
                 output,
-                left: Some(left),
+                resources: Some(resources),
             })
         }
     }
@@ -123,17 +124,17 @@ fn run_asked<S: Start, D: Days, O: Write + Drop>(
     start: S,
     days: &mut D,
     output: O,
-) -> io::Result<(u8, O, JobResources<S>)>
+) -> io::Result<(u8, O, JobResources<ClosedFiles<S>>)>
     ensures { (words : List Text) → AsksInWords words job.now
         → IfOk result (λ ended. RunsJob S.row S.Start D.gives words days.old days.new
-        (O.contents output) (O.contents ended.1) ended.0 ended.2.files ended.2.link
-        ended.2.looped) }
+        (O.contents output) (O.contents ended.1) ended.0 (files_in ended.2) (link_in ended.2)
+        (looped_in ended.2)) }
 {
     let mut output = BufWriter::new(rt.alloc(), output)?;
-    let (done, left) = run_job(rt, job, start, days, &mut output);
+    let JobEnd { done, resources } = run_job(rt, job, start, days, &mut output);
     let output = flush_buffer(output)?;
     match done {
-        Ok(status) => Ok((status as u8, output, left)),
+        Ok(status) => Ok((status as u8, output, resources)),
         Err(WriteFault) => Err(io::Error::from(ErrorKind::WriteZero)),
     }
 }

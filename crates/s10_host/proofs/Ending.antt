@@ -43,11 +43,9 @@ use Rattle.s10_host.specs.Jobs.{HasMadeLedger, HasCreated, EndsServed, IsRefused
 use Rattle.s10_host.specs.Jobs.{IsServed, IsUnlinked, Writes, IsReported, IsReportOf, HasServed}
 use Rattle.s10_host.specs.Jobs.{HasReported}
 use Rattle.s10_host.specs.Jobs.{HasAudited, HasEnded}
-use Rattle.s10_host.specs.declared.book_job.BookJob.TheVariants.{Create, Serve, Report as ReportOn}
-use Rattle.s10_host.specs.declared.book_job.BookJob.{BookJob}
 use Rattle.s10_host.specs.declared.ledger_job.LedgerJob.{LedgerJob}
-use Rattle.s10_host.specs.declared.ledger_job.LedgerJob.TheVariants.{BookJob as AsksFor, Audit}
-use Rattle.s10_host.specs.BookJobs.{IsRefusedAs, EndsOver, EndsIn}
+use Rattle.s10_host.specs.declared.ledger_job.LedgerJob.TheVariants.{Create, Serve, Report as ReportOn}
+use Rattle.s10_host.specs.LedgerJobs.{IsRefusedAs, EndsOver, EndsIn}
 use Rattle.s10_jobs.specs.Days.{IsTaken}
 use Rattle.sqlite.specs.Effect.{Database}
 use Rattle.s10_statements.specs.ConnectionState.{IsOpen}
@@ -55,16 +53,6 @@ use Rattle.s10_statements.specs.Creating.{IsCreateRefusal}
 use Rattle.s10_ledger.specs.Refusals.{IsOpeningRefusal}
 use Rattle.s10_host.proofs.Opening.{empty_book, found_book, closed_into, still_none, calls_all}
 use Rattle.s10_host.proofs.Opening.{all_kept_refused}
-
--- A job over a ledger has one job on the book.
-pub asked_alike : (task : LedgerJob) (work same : BookJob) → task ≡ AsksFor work
-    → task ≡ AsksFor same → work ≡ same
-asked_alike task work same is so = cc
-
--- A job on a book is no audit.
-pub no_audit : {A : Type 0} (task : LedgerJob) (work : BookJob) → task ≡ AsksFor work → task ≡ Audit
-    → A
-no_audit task work is so = absurd cc
 
 -- A job that failed by a fault, which was printed.
 pub fails_by : (IsFault : OpenFault → Type 0) (fault : OpenFault) (old new : Option (List ℕ))
@@ -158,15 +146,15 @@ module _ {D : Type 0} {g : disk.Ghosts D} where
   kept_copied closed put (Some f) committed done result new last copied (is, ends) =
       (subst (λ r. IfOk r (Copies closed)) is copied, ends)
 
-  pub refused_over : {C : Type 0} (gives : C → Option ℕ → C → Type 0) (work : BookJob)
+  pub refused_over : {C : Type 0} (gives : C → Option ℕ → C → Type 0) (job : LedgerJob)
       (begun ended : C) (was left : Held (FileStore D g)) (old between new : Option (List ℕ))
       (fault : OpenFault) (result : Result JobStatus WriteFault) (files : Option (Files D))
-      → IsRefusedAs over_files work was left fault → between ≡ old
+      → IsRefusedAs over_files job was left fault → between ≡ old
       → IfOk result (λ status. (status ≡ Failed) × Appends between new (ledger_line fault))
       → IfSome files (Copies left)
       → (IsOpen over_files left → (file_state left).committed ≡ (file_state left).now)
-      → EndsOver gives work begun ended was old new result files None
-  refused_over gives work begun ended was left old between new fault result files refused still says
+      → EndsOver gives job begun ended was old new result files None
+  refused_over gives job begun ended was left old between new fault result files refused still says
       copies committed =
       inr (record {
         fault = fault;
@@ -174,7 +162,7 @@ module _ {D : Type 0} {g : disk.Ghosts D} where
         refusal = refused.refusal;
         printed = subst (λ text. IfOk result (λ status. (status ≡ Failed)
             × Appends text new (ledger_line fault))) still says;
-        kept = all_kept_refused work was left fault files refused committed copies;
+        kept = all_kept_refused job was left fault files refused committed copies;
         no_link = refl;
       })
 

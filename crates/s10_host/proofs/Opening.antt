@@ -42,10 +42,10 @@ use Rattle.s10_schema.specs.Schema.{IsClosedSchema}
 use Rattle.s10_statements.specs.ConnectionState.{IsClean, IsOpen, WasSound}
 use Rattle.s10_link.specs.declared.peer.Peer.{Peer}
 use Rattle.s10_sockets.specs.Unbound.{IsUnbound}
-use Rattle.s10_host.specs.declared.book_job.BookJob.{BookJob}
-use Rattle.s10_host.specs.declared.book_job.BookJob.TheVariants.{Create, Serve, Report as ReportOn}
-use Rattle.s10_host.specs.BookJobs.{IsMadeWith, IsOpenedFrom, HasRunBookJob, IsRefusedLeft}
-use Rattle.s10_host.specs.BookJobs.{IsBookJobRefusal, IsRefusedBy, IsRefusedAs}
+use Rattle.s10_host.specs.declared.ledger_job.LedgerJob.{LedgerJob}
+use Rattle.s10_host.specs.declared.ledger_job.LedgerJob.TheVariants.{Create, Serve, Report as ReportOn, Audit}
+use Rattle.s10_host.specs.LedgerJobs.{IsMadeWith, IsOpenedFrom, HasRunOver, IsRefusedLeft}
+use Rattle.s10_host.specs.LedgerJobs.{IsJobRefusal, IsRefusedBy, IsRefusedAs}
 use Rattle.s10_link.specs.UdpLink.{IsBoundAt}
 use Rattle.s10_statements.specs.Creating.{HasOneOfTheNames, IsCreateRefusal}
 use Rattle.s10_host.specs.Files.{KeepsRefused}
@@ -99,22 +99,23 @@ opened_for g was (Ok book) opened honest found same history none sound =
 opened_for g was (Err e) opened honest found same history none sound = tt
 
 -- What refuses an opening refuses a job on an existing ledger.
-refused_left : {S : Type 0} (g : store.Ghosts S) (work : BookJob) (was left : Held S)
-    (fault : OpenFault) → ((terms : Terms) → work ≢ Create terms)
-    → IsRefusedLeft g was left fault → IsBookJobRefusal g work was left fault
+refused_left : {S : Type 0} (g : store.Ghosts S) (job : LedgerJob) (was left : Held S)
+    (fault : OpenFault) → ((terms : Terms) → job ≢ Create terms)
+    → IsRefusedLeft g was left fault → IsJobRefusal g job was left fault
 refused_left g (Create terms) was left fault none refusal = absurd (none terms refl)
 refused_left g (Serve at count day) was left fault none refusal = refusal
 refused_left g (ReportOn report) was left fault none refusal = refusal
+refused_left g Audit was left fault none refusal = refusal
 
 -- What a refusal says of the connection that it returns.
-refused_as : {S B R : Type 0} (g : store.Ghosts S) (work : BookJob) (was : Held S)
+refused_as : {S B R : Type 0} (g : store.Ghosts S) (job : LedgerJob) (was : Held S)
     (r : Result B R) (left : R → Held S) (fault : R → OpenFault)
-    → IfErr r (λ e. IsBookJobRefusal g work was (left e) (fault e))
+    → IfErr r (λ e. IsJobRefusal g job was (left e) (fault e))
     → IfErr r (λ e. WasSound g was (left e)) → IfErr r (λ e. (left e).in_transaction ≡ false)
     → IfErr r (λ e. IsClean g (left e) → IsOpen g (left e) → (state g (left e)).now
-    ≡ (state g was).now) → IfErr r (λ e. IsRefusedAs g work was (left e) (fault e))
-refused_as g work was (Ok book) left fault refusal sound idle kept = tt
-refused_as g work was (Err e) left fault refusal sound idle kept =
+    ≡ (state g was).now) → IfErr r (λ e. IsRefusedAs g job was (left e) (fault e))
+refused_as g job was (Ok book) left fault refusal sound idle kept = tt
+refused_as g job was (Err e) left fault refusal sound idle kept =
     record { refusal = refusal; sound = sound; idle = idle; kept = kept }
 
 pub refused_create : {S B R : Type 0} (g : store.Ghosts S) (terms : Terms) (was : Held S)
@@ -126,58 +127,60 @@ pub refused_create : {S B R : Type 0} (g : store.Ghosts S) (terms : Terms) (was 
 refused_create g terms was r left fault refusal sound idle kept =
     refused_as g (Create terms) was r left fault refusal sound idle kept
 
-refused_for_any : {S B R : Type 0} (g : store.Ghosts S) (work : BookJob) (was : Held S)
+refused_for_any : {S B R : Type 0} (g : store.Ghosts S) (job : LedgerJob) (was : Held S)
     (r : Result B R) (left : R → Held S) (fault : R → OpenFault)
-    → ((terms : Terms) → work ≢ Create terms)
+    → ((terms : Terms) → job ≢ Create terms)
     → IfErr r (λ e. IsRefusedLeft g was (left e) (fault e))
-    → IfErr r (λ e. IsBookJobRefusal g work was (left e) (fault e))
-refused_for_any g work was (Ok book) left fault none refusal = tt
-refused_for_any g work was (Err e) left fault none refusal =
-    refused_left g work was (left e) (fault e) none refusal
+    → IfErr r (λ e. IsJobRefusal g job was (left e) (fault e))
+refused_for_any g job was (Ok book) left fault none refusal = tt
+refused_for_any g job was (Err e) left fault none refusal =
+    refused_left g job was (left e) (fault e) none refusal
 
-pub refused_for : {S B R : Type 0} (g : store.Ghosts S) (work : BookJob) (was : Held S)
+pub refused_for : {S B R : Type 0} (g : store.Ghosts S) (job : LedgerJob) (was : Held S)
     (r : Result B R) (left : R → Held S) (fault : R → OpenFault)
-    → ((terms : Terms) → work ≢ Create terms)
+    → ((terms : Terms) → job ≢ Create terms)
     → IfErr r (λ e. IsRefusedLeft g was (left e) (fault e))
     → IfErr r (λ e. WasSound g was (left e)) → IfErr r (λ e. (left e).in_transaction ≡ false)
     → IfErr r (λ e. IsClean g (left e) → IsOpen g (left e) → (state g (left e)).now
-    ≡ (state g was).now) → IfErr r (λ e. IsRefusedAs g work was (left e) (fault e))
-refused_for g work was r left fault none refusal sound idle kept =
-    refused_as g work was r left fault (refused_for_any g work was r left fault none refusal) sound
+    ≡ (state g was).now) → IfErr r (λ e. IsRefusedAs g job was (left e) (fault e))
+refused_for g job was r left fault none refusal sound idle kept =
+    refused_as g job was r left fault (refused_for_any g job was r left fault none refusal) sound
     idle kept
 
 -- What a job did, by its ledger before and after and by how that was closed.
 pub worked_with : {S C : Type 0} (g : store.Ghosts S) (gives : C → Option ℕ → C → Type 0)
-    (work : BookJob) (first last : C) (was : Held S) (old new : Option (List ℕ)) (done : Result JobStatus WriteFault) (link : Option BoundLink)
+    (job : LedgerJob) (first last : C) (was : Held S) (old new : Option (List ℕ)) (done : Result JobStatus WriteFault) (link : Option BoundLink)
     (book after : Ledger S) (closed : Held S) (kept : Result (Unit {0}) BookFault)
-    → ((terms : Terms) → work ≡ Create terms → IsMadeWith g terms was book)
-    → (((terms : Terms) → work ≢ Create terms) → IsOpenedFrom g was book)
-    → ((terms : Terms) → work ≡ Create terms → (done ≡ Ok Done) × (link ≡ None) × (after ≡ book)
+    → job ≢ Audit → ((terms : Terms) → job ≡ Create terms → IsMadeWith g terms was book)
+    → (((terms : Terms) → job ≢ Create terms) → IsOpenedFrom g was book)
+    → ((terms : Terms) → job ≡ Create terms → (done ≡ Ok Done) × (link ≡ None) × (after ≡ book)
     × (new ≡ old))
-    → ((at : Peer) (count : ℕ) (day : Option ℕ) → work ≡ Serve at count day
+    → ((at : Peer) (count : ℕ) (day : Option ℕ) → job ≡ Serve at count day
     → (link ≡ None → IsUnbound book after old new done)
     × IfSome link (λ l. IsBoundAt at l.at
     × Turns g gives day first last count book after old new done l))
-    → ((report : Report) → work ≡ ReportOn report → (link ≡ None)
+    → ((report : Report) → job ≡ ReportOn report → (link ≡ None)
     × Unchanged (λ (b : Ledger S). history_of g b) (λ (b : Ledger S). committed_of g b)
     (λ (b : Ledger S). b.terms) (IsHonest g) (IsOverCleanDisk g) (MayFind g) book after
     × (IsHonest g after
     → IfOk done (PrintsReport book.faults after.faults old new
     (report_lines report (history_of g book) book.terms))))
     → IsClosedAs g after closed kept
-    → HasRunBookJob g gives work first last was old new done link closed kept
-worked_with g gives (Create terms) first last was old new done link book after closed kept made opened left served
+    → HasRunOver g gives job first last was old new done link closed kept
+worked_with g gives (Create terms) first last was old new done link book after closed kept other made opened left served
     reported closes =
     let (is, none, same, still) = left terms refl in
     (after, subst (IsMadeWith g terms was) (sym same) (made terms refl), closes, is, still, none)
-worked_with g gives (Serve at count day) first last was old new done link book after closed kept made opened left
+worked_with g gives (Serve at count day) first last was old new done link book after closed kept other made opened left
     served reported closes =
     let (unbound, turns) = served at count day refl in
     (book, opened (λ terms is. absurd cc), after, closes, unbound, turns)
-worked_with g gives (ReportOn report) first last was old new done link book after closed kept made opened left
+worked_with g gives (ReportOn report) first last was old new done link book after closed kept other made opened left
     served reported closes =
     let (none, unchanged, written) = reported report refl in
     (book, opened (λ terms is. absurd cc), after, closes, unchanged, written, none)
+worked_with g gives Audit first last was old new done link book after closed kept other made opened left
+    served reported closes = absurd (other refl)
 
 -- Two facts of a link that may be there.
 pub bound_served : {L : Type 0} (P Q : L → Type 0) (link : Option L) → IfSome link P
@@ -228,36 +231,37 @@ module _ {D : Type 0} {g : Ghosts D} where
         fresh = made.fresh;
       }
 
-  refused_by : (work : BookJob) (was left : Held (FileStore D g)) (fault : OpenFault)
-      → IsBookJobRefusal over_files work was left fault → IsClean over_files left
-      → IsOpen over_files left → IsRefusedBy work fault (file_state was).now
+  refused_by : (job : LedgerJob) (was left : Held (FileStore D g)) (fault : OpenFault)
+      → IsJobRefusal over_files job was left fault → IsClean over_files left
+      → IsOpen over_files left → IsRefusedBy job fault (file_state was).now
   refused_by (Create terms) was left fault refusal clean opened = refusal
   refused_by (Serve at count day) was left fault refusal clean opened = refusal clean opened
   refused_by (ReportOn report) was left fault refusal clean opened = refusal clean opened
+  refused_by Audit was left fault refusal clean opened = refusal clean opened
 
   -- The files of a refused ledger hold what they held.
-  kept_refused : (work : BookJob) (was left : Held (FileStore D g)) (fault : OpenFault)
-      (files : Files D) → IsRefusedAs over_files work was left fault
+  kept_refused : (job : LedgerJob) (was left : Held (FileStore D g)) (fault : OpenFault)
+      (files : Files D) → IsRefusedAs over_files job was left fault
       → (IsOpen over_files left → (file_state left).committed ≡ (file_state left).now)
-      → Copies left files → KeepsRefused was (IsRefusedBy work fault) files
-  kept_refused work was left fault files refused committed copies clean =
+      → Copies left files → KeepsRefused was (IsRefusedBy job fault) files
+  kept_refused job was left fault files refused committed copies clean =
       let copied = copies clean in
       record {
         sound = (refused.sound copied.was_clean).0;
-        refused = refused_by work was left fault refused.refusal copied.was_clean copied.was_open;
+        refused = refused_by job was left fault refused.refusal copied.was_clean copied.was_open;
         left = left;
         same = refused.kept copied.was_clean copied.was_open;
         quiescent = committed copied.was_open;
         copied = copied;
       }
 
-  pub all_kept_refused : (work : BookJob) (was left : Held (FileStore D g)) (fault : OpenFault)
-      (files : Option (Files D)) → IsRefusedAs over_files work was left fault
+  pub all_kept_refused : (job : LedgerJob) (was left : Held (FileStore D g)) (fault : OpenFault)
+      (files : Option (Files D)) → IsRefusedAs over_files job was left fault
       → (IsOpen over_files left → (file_state left).committed ≡ (file_state left).now)
-      → IfSome files (Copies left) → IfSome files (KeepsRefused was (IsRefusedBy work fault))
-  all_kept_refused work was left fault None refused committed copies = tt
-  all_kept_refused work was left fault (Some f) refused committed copies =
-      kept_refused work was left fault f refused committed copies
+      → IfSome files (Copies left) → IfSome files (KeepsRefused was (IsRefusedBy job fault))
+  all_kept_refused job was left fault None refused committed copies = tt
+  all_kept_refused job was left fault (Some f) refused committed copies =
+      kept_refused job was left fault f refused committed copies
 
   pub found_book : (held : Image) (was : Held (FileStore D g)) (book : Ledger (FileStore D g))
       → IsFoundIn held was → IsOpenedFrom over_files was book → WhereClean (IsFoundBook held) book

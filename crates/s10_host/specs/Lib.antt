@@ -3,4 +3,5 @@ pub mod Closing
 pub mod Files
 pub mod LoopRun
 pub mod Jobs
-pub mod BookJobs
+pub mod JobResources
+pub mod LedgerJobs

@@ -1,19 +1,29 @@
 //! The jobs over ledgers in tables, and over the files, sockets and clock of the system.
 #![tactic(auto)]
 
+mod ask;
 mod audit;
-mod book_job;
+mod closed_job;
+mod create;
 mod file_kind;
 mod files;
+mod job_end;
 mod job_resources;
 mod jobs;
 mod ledger_job;
 mod loop_resources;
-mod loopback;
+mod looping;
+mod on_file;
+mod over_store;
 mod progress;
+mod report;
+mod serve;
+mod worked;
 
 pub use audit::run_audit;
+pub use files::ClosedFiles;
+pub use job_end::JobEnd;
 pub use job_resources::JobResources;
 pub use jobs::run_job;
 pub use loop_resources::LoopResources;
-pub use loopback::run_loop;
+pub use looping::run_loop;

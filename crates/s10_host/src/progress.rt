@@ -1,6 +1,5 @@
 //! Prints the progress of the creation or opening of a ledger in a file to standard error.
 
-use crate::book_job::BookJob;
 use crate::ledger_job::LedgerJob;
 use s10_ledger::{Observer, OpenFault};
 use sqlite::Error;
@@ -35,8 +34,8 @@ impl<'a> Progress<'a> {
     }
 
     // Prints why no ledger was created, if one was asked for and no statement failed.
-    pub(crate) fn eprint_not_created(&self, task: &LedgerJob, fault: OpenFault) {
-        if let LedgerJob::BookJob(BookJob::Create(_)) = task
+    pub(crate) fn eprint_not_created(&self, job: &LedgerJob, fault: OpenFault) {
+        if let LedgerJob::Create(_) = job
             && fault == OpenFault::Store
             && !self.failed
         {

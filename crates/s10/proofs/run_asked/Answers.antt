@@ -10,7 +10,7 @@ returns-in-Ok g c words asks =
     new_writer g.O.Write.contents c.in_ok-output.output c.args.output c.in_ok-output.ensures.inner
     c.in_ok-output.ensures.empty in (
       c.args.job.now,
-      c.run_job-done.result.0,
+      c.run_job-done.result.done,
       writer_contents g.O.Write.contents c.run_job-done.new.out,
       asks,
       rw (← unwritten) c.run_job-done.ensures,

@@ -11,8 +11,8 @@ use sqlite::Unknown;
 fn is_ended(rt: &HostRuntime, job: &Job<'_>, status: JobStatus, line: &str) -> bool {
     let mut output = Vec::new(rt.alloc());
     let mut days = ClockDays { clock: rt };
-    let (ended, _left) = run_job(rt, job, Unknown, &mut days, &mut output);
-    ended == Ok(status) && output.as_slice() == line.as_bytes()
+    let ended = run_job(rt, job, Unknown, &mut days, &mut output);
+    ended.done == Ok(status) && output.as_slice() == line.as_bytes()
 }
 
 /// Returns the same for the job that a command line asks for.

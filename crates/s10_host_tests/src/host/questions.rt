@@ -104,8 +104,7 @@ fn answer_of<W: Write>(
     out: &mut W,
 ) -> Result<JobStatus, WriteFault> {
     let mut days = ClockDays { clock: rt };
-    let (done, _left) = run_job(rt, job, Unknown, &mut days, out);
-    done
+    run_job(rt, job, Unknown, &mut days, out).done
 }
 
 /// Returns whether a question ends with this status and prints this line, and fails if the writer

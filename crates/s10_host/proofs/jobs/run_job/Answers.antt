@@ -1,21 +1,38 @@
 use Rattle.std.proofs.Common.{refl}
+use Rattle.s10_host.specs.JobResources.{files_in, link_in, looped_in}
 use Rattle.s10_host.proofs.Ending.{ended_as}
 use Rattle.s10_host.proofs.jobs.run_job.Goals as goal
 
 pub returns-in-Create : goal.returns-in-Create
-returns-in-Create g c = ended_as _ g.S.Start g.D.Days.gives c.args.job.now _ _ _ _ _ _ _ _ _ c.run_create.result.1.link
-    _ c.run_create.result.1.looped _ c.in-Create.is refl refl refl refl c.run_create.ensures
+returns-in-Create g c =
+    let left = c.run_create.result.resources in
+    ended_as _ g.S.Start g.D.Days.gives c.args.job.now _ _ _ _ _ _ _ _ _ (link_in left)
+    _ (looped_in left) _ c.in-Create.is refl refl refl refl c.run_create.ensures
 
 pub returns-in-Serve : goal.returns-in-Serve
-returns-in-Serve g c = ended_as _ g.S.Start g.D.Days.gives c.args.job.now _ _ _ _ _ _ _ _ _ _ _ _
-    c.run_serve.result.1.looped c.in-Serve.is refl refl refl refl c.run_serve.ensures
+returns-in-Serve g c = ended_as _ g.S.Start g.D.Days.gives c.args.job.now _ _ _ _ _ _ _ _ _ _ _
+    (looped_in c.run_serve.result.resources) _ c.in-Serve.is refl refl refl refl c.run_serve.ensures
+
+pub returns-in-Ask : goal.returns-in-Ask
+returns-in-Ask g c =
+    let left = c.run_question.result.resources in
+    ended_as _ g.S.Start g.D.Days.gives c.args.job.now _ _ _ _ _ _ _ (files_in left) _ _ _
+    (looped_in left) _ c.in-Ask.is refl refl refl refl c.run_question.ensures
 
 pub returns-in-Report : goal.returns-in-Report
-returns-in-Report g c = ended_as _ g.S.Start g.D.Days.gives c.args.job.now _ _ _ _ _ _ _ _ _ c.run_report.result.1.link
-    _ c.run_report.result.1.looped _ c.in-Report.is refl refl refl refl c.run_report.ensures
+returns-in-Report g c =
+    let left = c.run_report.result.resources in
+    ended_as _ g.S.Start g.D.Days.gives c.args.job.now _ _ _ _ _ _ _ _ _ (link_in left)
+    _ (looped_in left) _ c.in-Report.is refl refl refl refl c.run_report.ensures
 
 pub returns-in-Audit : goal.returns-in-Audit
 returns-in-Audit g c =
-    ended_as _ g.S.Start g.D.Days.gives c.args.job.now _ _ _ _ _ _ _ _ _ c.run_on_file.result.1.link _
-    c.run_on_file.result.1.looped _ c.in-Audit.is refl refl refl refl
-    (c.run_on_file.ensures.audited refl)
+    let left = c.run_on_file.result.resources in
+    ended_as _ g.S.Start g.D.Days.gives c.args.job.now _ _ _ _ _ _ _ _ _ (link_in left) _
+    (looped_in left) _ c.in-Audit.is refl refl refl refl (c.run_on_file.ensures.audited refl)
+
+pub returns-in-Loop : goal.returns-in-Loop
+returns-in-Loop g c =
+    let left = c.run_loop_on.result.resources in
+    ended_as _ g.S.Start g.D.Days.gives c.args.job.now _ _ _ _ _ _ _ (files_in left) _
+    (link_in left) _ _ _ c.in-Loop.is refl refl refl refl c.run_loop_on.ensures

@@ -1,0 +1,30 @@
+-- Defines which resources a job returns.
+use Rattle.std.specs.Prelude.{Option, Some, None}
+use Rattle.s10_link.specs.UdpLink.{BoundLink}
+use Rattle.s10_host.specs.declared.job_resources.JobResources.{JobResources}
+use Rattle.s10_host.specs.declared.job_resources.JobResources.TheVariants.{Nothing, Files, Link, Served, Loop}
+use Rattle.s10_host.specs.declared.loop_resources.LoopResources.{LoopResources}
+
+-- The files of the ledger, closed.
+abbrev pub files_in : {F : Type 0} → JobResources F → Option F
+files_in Nothing = None
+files_in (Files files) = Some files
+files_in (Link link) = None
+files_in (Served files link) = Some files
+files_in (Loop looped) = None
+
+-- The link that the ledger was served over, or that a request was sent over.
+abbrev pub link_in : {F : Type 0} → JobResources F → Option BoundLink
+link_in Nothing = None
+link_in (Files files) = None
+link_in (Link link) = Some link
+link_in (Served files link) = Some link
+link_in (Loop looped) = None
+
+-- The resources of a loop.
+abbrev pub looped_in : {F : Type 0} → JobResources F → Option LoopResources
+looped_in Nothing = None
+looped_in (Files files) = None
+looped_in (Link link) = None
+looped_in (Served files link) = None
+looped_in (Loop looped) = Some looped

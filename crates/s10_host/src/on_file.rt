@@ -1,0 +1,160 @@
+//! Runs a job over the ledger in a file, and closes its files.
+
+ghost use Rattle.std.specs.Prelude.{◌≡◌, ◌≢◌, ℕ, false, Some, None, Result, Ok, Err, IsOk, IfOk, IfSome};
+ghost use Rattle.std.specs.Io.KnownBytes.{Appends};
+ghost use Rattle.sqlite.specs.Files.{over_files};
+ghost use Rattle.s10_rows.specs.declared.open_fault.OpenFault.{OpenFault};
+ghost use Rattle.s10_host.specs.Audited.{HasFound, KeepsAudited, audit_line, audit_status};
+ghost use Rattle.s10_host.specs.Files.{LeavesClean, AreFilesOf};
+ghost use Rattle.s10_host.specs.JobResources.{files_in, link_in};
+ghost use Rattle.s10_host.specs.Jobs.{ledger_line, EndsAs, HasAudited};
+ghost use Rattle.s10_host.specs.LedgerJobs.{EndsOver, EndsIn};
+
+use crate::closed_job::ClosedJob;
+use crate::file_kind::{missing_log, remove_log};
+use crate::files::{ClosedFiles, checkpoint_and_close, close_refused, connect_to_ledger};
+use crate::job_end::JobEnd;
+use crate::job_resources::{JobResources, resources_of};
+use crate::ledger_job::LedgerJob;
+use crate::over_store::run_over_store;
+use crate::progress::Progress;
+use crate::worked::Worked;
+use s10_book::BookFault;
+use s10_jobs::{Days, JobStatus, fail_by_ledger};
+use s10_ledger::{OpenFault, Refused};
+use s10_lines::WriteFault;
+use sqlite::{Connection, FileStore, Files, Start};
+use sqlite_disk::Disk;
+use std::io::Write;
+
+/// Runs the job over the ledger of an existing file.
+pub(crate) fn run_on_file<S: Start, D: Days, W: Write>(
+    rt: &HostRuntime,
+    ledger: &str,
+    job: LedgerJob,
+    start: S,
+    days: &mut D,
+    out: &mut W,
+) -> JobEnd<ClosedFiles<S>>
+    ensures worked { job ≢ LedgerJob.Audit → EndsIn S.row S.Start D.gives job days.old days.new
+        (W.contents out.old) (W.contents out.new) result.done (files_in result.resources)
+        (link_in result.resources) }
+    ensures audited { job ≡ LedgerJob.Audit → HasAudited S.row S.Start (W.contents out.old)
+        (W.contents out.new) result.done (files_in result.resources) }
+{
+    let missing = missing_log(rt, ledger);
+    match connect_to_ledger(rt, ledger, start) {
+        Ok(connection) => run_and_close_file(rt, ledger, connection, missing, job, days, out),
+        Err(fault) => JobEnd {
+            done: fail_by_ledger(fault, out),
+            resources: JobResources::Nothing,
+        },
+    }
+}
+
+/// Runs the job over the ledger of a connection, and closes the ledger whether or not the job
+/// succeeded.
+///
+/// If the file was refused, removes the log that opening it created. An audit leaves its files as
+/// they are: their last commits may be in the log alone.
+pub(crate) fn run_and_close_file<F: Disk + Drop, D: Days, W: Write>(
+    rt: &HostRuntime,
+    ledger: &str,
+    connection: Connection<FileStore<F>>,
+    missing: Option<String>,
+    job: LedgerJob,
+    days: &mut D,
+    out: &mut W,
+) -> JobEnd<Files<F>>
+    requires idle { connection.in_transaction ≡ false }
+    ensures worked { job ≢ LedgerJob.Audit → EndsOver D.gives job days.old days.new connection
+        (W.contents out.old) (W.contents out.new) result.done (files_in result.resources)
+        (link_in result.resources) }
+    ensures audited { job ≡ LedgerJob.Audit → (files : _) × (files_in result.resources ≡ Some files)
+        × (left : _) × (found : Result ℕ OpenFault) × HasFound over_files connection left found
+        × IfOk result.done (λ status. (status ≡ audit_status found)
+        × Appends (W.contents out.old) (W.contents out.new) (audit_line found))
+        × LeavesClean left files × AreFilesOf left files × KeepsAudited connection left found files }
+{
+    let mut progress = Progress::new(rt, ledger);
+    match run_over_store(rt, connection, job, days, &mut progress, out) {
+        Worked::Closed(ended_job) => {
+            let ClosedJob {
+                done,
+                link,
+                connection,
+                committed,
+            } = ended_job;
+            let closed = checkpoint_and_close(rt, ledger, connection);
+            let (done, files) = ended(done, committed, closed, out);
+            JobEnd {
+                done,
+                resources: resources_of(files, link),
+            }
+        }
+        Worked::Refused(refusal) => {
+            let Refused { fault, connection } = refusal;
+            progress.eprint_not_created(&job, fault);
+            remove_log(rt, missing);
+            let files = close_refused(connection);
+            JobEnd {
+                done: fail_by_ledger(fault, out),
+                resources: resources_of(files, None),
+            }
+        }
+        Worked::Audited { done, store } => {
+            remove_audit_log(rt, missing, &done);
+            JobEnd {
+                done,
+                resources: JobResources::Files(store.close()),
+            }
+        }
+    }
+}
+
+// Returns how the job ended, or reports that the last calls could not be committed or that the
+// ledger could not be closed.
+fn ended<T, W: Write>(
+    done: Result<JobStatus, WriteFault>,
+    committed: Result<(), BookFault>,
+    closed: Result<T, OpenFault>,
+    out: &mut W,
+) -> (Result<JobStatus, WriteFault>, Option<T>)
+    ensures kept { IfSome result.1 (λ files. (closed ≡ Ok files)
+        × EndsAs committed done (W.contents out.old) (W.contents out.new) result.0) }
+    ensures lost { result.1 ≡ None → (fault : OpenFault) × (closed ≡ Err fault)
+        × IfOk result.0 (λ status. IsOk done × (status ≡ JobStatus.Failed)
+        × Appends (W.contents out.old) (W.contents out.new) (ledger_line fault)) }
+{
+    match closed {
+        Ok(files) => match committed {
+            Ok(()) => (done, Some(files)),
+            Err(_) => (fail_by_closing(done, OpenFault::Store, out), Some(files)),
+        },
+        Err(fault) => (fail_by_closing(done, fault, out), None),
+    }
+}
+
+fn fail_by_closing<W: Write>(
+    done: Result<JobStatus, WriteFault>,
+    fault: OpenFault,
+    out: &mut W,
+) -> Result<JobStatus, WriteFault>
+    ensures { IfOk result (λ status. IsOk done × (status ≡ JobStatus.Failed)
+        × Appends (W.contents out.old) (W.contents out.new) (ledger_line fault)) }
+{
+    let _status = done?;
+    fail_by_ledger(fault, out)
+}
+
+// Removes the log that opening the file created, if the audit refused the file. The file is still
+// locked.
+fn remove_audit_log(
+    rt: &HostRuntime,
+    missing: Option<String>,
+    audited: &Result<JobStatus, WriteFault>,
+) {
+    if let Ok(JobStatus::Failed) = audited {
+        remove_log(rt, missing);
+    }
+}

@@ -1,0 +1,45 @@
+//! Serves the ledger in a file at an address.
+
+ghost use Rattle.s10_host.specs.JobResources.{files_in, link_in};
+ghost use Rattle.s10_host.specs.Jobs.{HasServed};
+
+use crate::files::ClosedFiles;
+use crate::job_end::JobEnd;
+use crate::job_resources::JobResources;
+use crate::ledger_job::LedgerJob;
+use crate::on_file::run_on_file;
+use s10_jobs::{Days, refuse};
+use s10_link::Peer;
+use sqlite::Start;
+use std::io::Write;
+
+/// Serves the ledger at the address, unless the address cannot be read.
+pub(crate) fn run_serve<S: Start, D: Days, W: Write>(
+    rt: &HostRuntime,
+    ledger: &str,
+    bind: &str,
+    count: u32,
+    day: Option<u32>,
+    start: S,
+    days: &mut D,
+    out: &mut W,
+) -> JobEnd<ClosedFiles<S>>
+    ensures { HasServed S.row S.Start D.gives bind.now day days.old days.new count
+        (W.contents out.old) (W.contents out.new) result.done (files_in result.resources)
+        (link_in result.resources) }
+{
+    let Some(at) = Peer::read(bind.as_bytes()) else {
+        return JobEnd {
+            done: refuse(b"peer", out),
+            resources: JobResources::Nothing,
+        };
+    };
+    eprint_opening(rt, ledger);
+    let job = LedgerJob::Serve { at, count, day };
+    run_on_file(rt, ledger, job, start, days, out)
+}
+
+// Opening a large ledger takes a while. The turns go on even if standard error is closed.
+fn eprint_opening(rt: &HostRuntime, ledger: &str) {
+    let _ = eprintln!(rt; "opening {ledger}");
+}
