@@ -16,7 +16,7 @@ use Rattle.sqlite_store.specs.declared.store.FileStore.{FileStore}
 use Rattle.sqlite_store.specs.FileStore.{view, recovers, files as store_files}
 use Rattle.sqlite_store.specs.Laws.{settled_at}
 use Rattle.sqlite.specs.Effect.{Database}
-use Rattle.sqlite.specs.Files.{file_state, over_files, image_of, HoldsDatabase, IsOpened}
+use Rattle.sqlite.specs.Files.{file_state, over_files, HoldsDatabase, IsOpened}
 use Rattle.sqlite.specs.Held.{AreDatabases}
 use Rattle.sqlite.proofs.Theorems.{opens_again}
 use Rattle.sqlite_trees.specs.declared.store.Store.{Ghosts}

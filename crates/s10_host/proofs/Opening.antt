@@ -17,7 +17,6 @@ use Rattle.sqlite_store.specs.FileStore.{view, files as store_files}
 use Rattle.sqlite.specs.Effect.{Database}
 use Rattle.sqlite.specs.Held.{Held, state}
 use Rattle.sqlite.specs.Files.{file_state, over_files, AreFoundIn}
-use Rattle.sqlite.specs.Closing.{IsCopied}
 use Rattle.s10_history.specs.declared.entry.Entry.{Entry}
 use Rattle.s10_history.specs.Settings.{Terms}
 use Rattle.s10_history.specs.History.{day_of}

@@ -1,18 +1,19 @@
 //! Creates a ledger in a file.
 
-ghost use Rattle.std.specs.Prelude.{◌≡◌, ◌↔◌, codes, Ok, IfOk, IsTrue};
+ghost use Rattle.std.specs.Prelude.{◌≡◌, ◌↔◌, codes, Ok, None, IfOk, IsTrue};
 ghost use Rattle.std.specs.Io.KnownBytes.{Appends};
 ghost use Rattle.s10_host.specs.JobResources.{files_in};
-ghost use Rattle.s10_host.specs.Jobs.{HasCreated};
+ghost use Rattle.s10_host.specs.Jobs.{HasCreated, ledger_line};
 
-use crate::file_kind::missing_log;
-use crate::files::{ClosedFiles, connect_to_new};
+use crate::files::{ClosedFiles, connect_to_new, find_or_create};
 use crate::job_end::JobEnd;
 use crate::job_resources::JobResources;
+use crate::ledger_file::LedgerFile;
 use crate::ledger_job::LedgerJob;
 use crate::on_file::run_and_close_file;
 use s10_history::Settings;
 use s10_jobs::{Days, JobStatus, fail_by_ledger};
+use s10_ledger::OpenFault;
 use s10_lines::{WriteFault, write_text};
 use sqlite::Start;
 use std::io::Write;
@@ -29,12 +30,29 @@ pub(crate) fn run_create<S: Start, D: Days, W: Write>(
     ensures { HasCreated S.row S.Start settings (W.contents out.old) (W.contents out.new)
         result.done (files_in result.resources) }
 {
-    let missing = missing_log(rt, ledger);
-    match connect_to_new(rt, ledger, start) {
+    match find_or_create(rt, ledger) {
+        Ok(file) => create_in(rt, &file, settings, start, days, out),
+        Err(fault) => not_connected(fault, out),
+    }
+}
+
+// Creates a ledger in a file that exists.
+fn create_in<S: Start, D: Days, W: Write>(
+    rt: &HostRuntime,
+    file: &LedgerFile<'_>,
+    settings: Settings,
+    start: S,
+    days: &mut D,
+    out: &mut W,
+) -> JobEnd<ClosedFiles<S>>
+    ensures { HasCreated S.row S.Start settings (W.contents out.old) (W.contents out.new)
+        result.done (files_in result.resources) }
+{
+    match connect_to_new(rt, file, start) {
         Ok(connection) => {
             let job = LedgerJob::Create(settings);
             let JobEnd { done, resources } = run_and_close_file(
-                rt, ledger, connection, missing, job, days, out,
+                rt, file, connection, job, days, out,
             );
             if is_done(&done) {
                 return JobEnd {
@@ -44,10 +62,19 @@ pub(crate) fn run_create<S: Start, D: Days, W: Write>(
             }
             JobEnd { done, resources }
         }
-        Err(fault) => JobEnd {
-            done: fail_by_ledger(fault, out),
-            resources: JobResources::Nothing,
-        },
+        Err(fault) => not_connected(fault, out),
+    }
+}
+
+// Reports why the file cannot be created or opened.
+fn not_connected<F, W: Write>(fault: OpenFault, out: &mut W) -> JobEnd<F>
+    ensures done { IfOk result.done (λ status. (status ≡ JobStatus.Failed)
+        × Appends (W.contents out.old) (W.contents out.new) (ledger_line fault)) }
+    ensures nothing { files_in result.resources ≡ None }
+{
+    JobEnd {
+        done: fail_by_ledger(fault, out),
+        resources: JobResources::Nothing,
     }
 }
 

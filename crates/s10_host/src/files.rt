@@ -6,7 +6,7 @@ ghost use Rattle.s10_statements.specs.ConnectionState.{IsOpen};
 ghost use Rattle.sqlite_wal.specs.Files.{image_at};
 ghost use Rattle.s10_host.specs.Files.{IsFoundIn, IsPlain, Copies, IsFileFault, IsAbsenceOr};
 
-use crate::file_kind::{fault_of_existing, fault_of_new, is_empty, missing_log, remove_unused_log};
+use crate::ledger_file::LedgerFile;
 use s10_ledger::OpenFault;
 use sqlite::{Connection, Error, ErrorCode, FileFrom, FileStore, Files, Start};
 use sqlite_disk::Disk;
@@ -72,9 +72,9 @@ fn fault_of_closing<D: Disk + Drop>(
 /// - `Memory` if out of memory.
 /// - `Store` if the file is not a database, its folder does not exist, or the file cannot be
 ///   opened.
-pub fn connect_to_ledger<S: Start>(
+pub(crate) fn connect_to_ledger<S: Start>(
     rt: &HostRuntime,
-    path: &str,
+    file: &LedgerFile<'_>,
     start: S,
 ) -> Result<FileConnection<S>, OpenFault>
     ensures idle { IfOk result (λ connection. connection.in_transaction ≡ false) }
@@ -82,13 +82,13 @@ pub fn connect_to_ledger<S: Start>(
     ensures plain { IfOk result (IsPlain (image_at S.Start)) }
     ensures refused { IfErr result (IsAbsenceOr IsFileFault) }
 {
-    match fs::exists(rt, path) {
-        Ok(true) => match fault_of_existing(rt, path) {
-            None => connect(rt, path, start),
+    match fs::exists(rt, file.path) {
+        Ok(true) => match file.fault_of_existing(rt) {
+            None => connect(rt, file, start),
             Some(fault) => Err(fault),
         },
-        Ok(false) => Err(fault_of_missing(rt, path)),
-        Err(cause) => Err(fault_of_system(rt, path, &cause)),
+        Ok(false) => Err(fault_of_missing(rt, file.path)),
+        Err(cause) => Err(fault_of_system(rt, file.path, &cause)),
     }
 }
 
@@ -100,17 +100,34 @@ fn fault_of_system(rt: &HostRuntime, path: &str, cause: &io::Error) -> OpenFault
     OpenFault::Store
 }
 
-/// Opens the file of a new ledger as a database, or creates it. A file that holds anything but a
-/// database is not opened. No file is removed.
+/// Finds the file of a new ledger. Creates it, empty, if it is missing. No file is removed.
+///
+/// # Errors
+///
+/// `Store` if it cannot be created. The reason is printed to standard error.
+pub(crate) fn find_or_create<'a>(
+    rt: &HostRuntime,
+    path: &'a str,
+) -> Result<LedgerFile<'a>, OpenFault>
+    ensures refused { IfErr result IsFileFault }
+{
+    match create_missing(rt, path) {
+        Ok(()) => Ok(LedgerFile::find(rt, path)),
+        Err(cause) => Err(fault_of_system(rt, path, &cause)),
+    }
+}
+
+/// Opens the file of a new ledger as a database. A file that holds anything but a database is not
+/// opened. No file is removed.
 ///
 /// # Errors
 ///
 /// - `Memory` if out of memory.
 /// - `Store` if the file holds something else or cannot be opened. The reason is printed to
 ///   standard error.
-pub fn connect_to_new<S: Start>(
+pub(crate) fn connect_to_new<S: Start>(
     rt: &HostRuntime,
-    path: &str,
+    file: &LedgerFile<'_>,
     start: S,
 ) -> Result<FileConnection<S>, OpenFault>
     ensures idle { IfOk result (λ connection. connection.in_transaction ≡ false) }
@@ -118,12 +135,9 @@ pub fn connect_to_new<S: Start>(
     ensures plain { IfOk result (IsPlain (image_at S.Start)) }
     ensures refused { IfErr result IsFileFault }
 {
-    if let Some(fault) = fault_of_new(rt, path) {
-        return Err(fault);
-    }
-    match create_missing(rt, path) {
-        Ok(()) => connect(rt, path, start),
-        Err(cause) => Err(fault_of_system(rt, path, &cause)),
+    match file.fault_of_new(rt) {
+        None => connect(rt, file, start),
+        Some(fault) => Err(fault),
     }
 }
 
@@ -162,24 +176,26 @@ fn fault_of_absent(rt: &HostRuntime, path: &str, absent: &io::Error) -> OpenFaul
     OpenFault::NotALedger
 }
 
-// Opens a file as a database, or creates it.
-fn connect<S: Start>(rt: &HostRuntime, path: &str, start: S) -> Result<FileConnection<S>, OpenFault>
+// Opens a file as a database.
+fn connect<S: Start>(
+    rt: &HostRuntime,
+    file: &LedgerFile<'_>,
+    start: S,
+) -> Result<FileConnection<S>, OpenFault>
     ensures idle { IfOk result (λ connection. connection.in_transaction ≡ false) }
     ensures found { IfOk result (IsFoundIn (image_at S.Start)) }
     ensures plain { IfOk result (IsPlain (image_at S.Start)) }
     ensures refused { IfErr result IsFileFault }
 {
-    eprint_size(rt, path);
-    let was_empty = is_empty(rt, path);
-    let missing = missing_log(rt, path);
-    match Connection::open_from(rt, path, false, start) {
+    eprint_size(rt, file.path);
+    match Connection::open_from(rt, file.path, false, start) {
         Ok(connection) => Ok(connection),
         Err((error, files)) => {
             // If the files were not returned, another program may have them open.
             if files.is_some() {
-                remove_unused_log(rt, path, was_empty, missing);
+                file.remove_unused_log(rt);
             }
-            eprint_cause(rt, path, &error);
+            eprint_cause(rt, file.path, &error);
             Err(fault_of_opening(&error))
         }
     }

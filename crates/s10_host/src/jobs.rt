@@ -7,6 +7,7 @@ use crate::ask::run_question;
 use crate::create::run_create;
 use crate::files::ClosedFiles;
 use crate::job_end::JobEnd;
+use crate::ledger_file::LedgerFile;
 use crate::ledger_job::LedgerJob;
 use crate::looping::run_loop_on;
 use crate::on_file::run_on_file;
@@ -47,7 +48,10 @@ pub fn run_job<S: Start, D: Days, W: Write>(
             is_of_issues,
             day,
         } => run_report(rt, *ledger, *is_of_issues, *day, start, days, out),
-        Job::Audit { ledger } => run_on_file(rt, *ledger, LedgerJob::Audit, start, days, out),
+        Job::Audit { ledger } => {
+            let file = LedgerFile::find(rt, *ledger);
+            run_on_file(rt, &file, LedgerJob::Audit, start, days, out)
+        }
         Job::Loop { day } => run_loop_on(rt, *day, days, out),
     }
 }

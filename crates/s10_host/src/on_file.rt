@@ -11,10 +11,10 @@ ghost use Rattle.s10_host.specs.Jobs.{ledger_line, EndsAs, HasAudited};
 ghost use Rattle.s10_host.specs.LedgerJobs.{EndsOver, EndsIn};
 
 use crate::closed_job::ClosedJob;
-use crate::file_kind::{missing_log, remove_log};
 use crate::files::{ClosedFiles, checkpoint_and_close, close_refused, connect_to_ledger};
 use crate::job_end::JobEnd;
 use crate::job_resources::{JobResources, resources_of};
+use crate::ledger_file::LedgerFile;
 use crate::ledger_job::LedgerJob;
 use crate::over_store::run_over_store;
 use crate::progress::Progress;
@@ -30,7 +30,7 @@ use std::io::Write;
 /// Runs the job over the ledger of an existing file.
 pub(crate) fn run_on_file<S: Start, D: Days, W: Write>(
     rt: &HostRuntime,
-    ledger: &str,
+    file: &LedgerFile<'_>,
     job: LedgerJob,
     start: S,
     days: &mut D,
@@ -42,9 +42,8 @@ pub(crate) fn run_on_file<S: Start, D: Days, W: Write>(
     ensures audited { job ≡ LedgerJob.Audit → HasAudited S.row S.Start (W.contents out.old)
         (W.contents out.new) result.done (files_in result.resources) }
 {
-    let missing = missing_log(rt, ledger);
-    match connect_to_ledger(rt, ledger, start) {
-        Ok(connection) => run_and_close_file(rt, ledger, connection, missing, job, days, out),
+    match connect_to_ledger(rt, file, start) {
+        Ok(connection) => run_and_close_file(rt, file, connection, job, days, out),
         Err(fault) => JobEnd {
             done: fail_by_ledger(fault, out),
             resources: JobResources::Nothing,
@@ -59,9 +58,8 @@ pub(crate) fn run_on_file<S: Start, D: Days, W: Write>(
 /// they are: their last commits may be in the log alone.
 pub(crate) fn run_and_close_file<F: Disk + Drop, D: Days, W: Write>(
     rt: &HostRuntime,
-    ledger: &str,
+    file: &LedgerFile<'_>,
     connection: Connection<FileStore<F>>,
-    missing: Option<String>,
     job: LedgerJob,
     days: &mut D,
     out: &mut W,
@@ -76,7 +74,7 @@ pub(crate) fn run_and_close_file<F: Disk + Drop, D: Days, W: Write>(
         × Appends (W.contents out.old) (W.contents out.new) (audit_line found))
         × LeavesClean left files × AreFilesOf left files × KeepsAudited connection left found files }
 {
-    let mut progress = Progress::new(rt, ledger);
+    let mut progress = Progress::new(rt, file.path);
     match run_over_store(rt, connection, job, days, &mut progress, out) {
         Worked::Closed(ended_job) => {
             let ClosedJob {
@@ -85,7 +83,7 @@ pub(crate) fn run_and_close_file<F: Disk + Drop, D: Days, W: Write>(
                 connection,
                 committed,
             } = ended_job;
-            let closed = checkpoint_and_close(rt, ledger, connection);
+            let closed = checkpoint_and_close(rt, file.path, connection);
             let (done, files) = ended(done, committed, closed, out);
             JobEnd {
                 done,
@@ -95,7 +93,7 @@ pub(crate) fn run_and_close_file<F: Disk + Drop, D: Days, W: Write>(
         Worked::Refused(refusal) => {
             let Refused { fault, connection } = refusal;
             progress.eprint_not_created(&job, fault);
-            remove_log(rt, missing);
+            file.remove_unused_log(rt);
             let files = close_refused(connection);
             JobEnd {
                 done: fail_by_ledger(fault, out),
@@ -103,7 +101,7 @@ pub(crate) fn run_and_close_file<F: Disk + Drop, D: Days, W: Write>(
             }
         }
         Worked::Audited { done, store } => {
-            remove_audit_log(rt, missing, &done);
+            remove_audit_log(rt, file, &done);
             JobEnd {
                 done,
                 resources: JobResources::Files(store.close()),
@@ -151,10 +149,10 @@ fn fail_by_closing<W: Write>(
 // locked.
 fn remove_audit_log(
     rt: &HostRuntime,
-    missing: Option<String>,
+    file: &LedgerFile<'_>,
     audited: &Result<JobStatus, WriteFault>,
 ) {
     if let Ok(JobStatus::Failed) = audited {
-        remove_log(rt, missing);
+        file.remove_unused_log(rt);
     }
 }

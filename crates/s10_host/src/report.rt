@@ -6,6 +6,7 @@ ghost use Rattle.s10_host.specs.Jobs.{HasReported};
 use crate::files::ClosedFiles;
 use crate::job_end::JobEnd;
 use crate::job_resources::JobResources;
+use crate::ledger_file::LedgerFile;
 use crate::ledger_job::LedgerJob;
 use crate::on_file::run_on_file;
 use s10_jobs::{Days, Report, fail_by_clock};
@@ -31,5 +32,6 @@ pub(crate) fn run_report<S: Start, D: Days, W: Write>(
             resources: JobResources::Nothing,
         };
     };
-    run_on_file(rt, ledger, LedgerJob::Report(report), start, days, out)
+    let file = LedgerFile::find(rt, ledger);
+    run_on_file(rt, &file, LedgerJob::Report(report), start, days, out)
 }

@@ -6,6 +6,7 @@ ghost use Rattle.s10_host.specs.Jobs.{HasServed};
 use crate::files::ClosedFiles;
 use crate::job_end::JobEnd;
 use crate::job_resources::JobResources;
+use crate::ledger_file::LedgerFile;
 use crate::ledger_job::LedgerJob;
 use crate::on_file::run_on_file;
 use s10_jobs::{Days, refuse};
@@ -36,7 +37,8 @@ pub(crate) fn run_serve<S: Start, D: Days, W: Write>(
     };
     eprint_opening(rt, ledger);
     let job = LedgerJob::Serve { at, count, day };
-    run_on_file(rt, ledger, job, start, days, out)
+    let file = LedgerFile::find(rt, ledger);
+    run_on_file(rt, &file, job, start, days, out)
 }
 
 // Opening a large ledger takes a while. The turns go on even if standard error is closed.
