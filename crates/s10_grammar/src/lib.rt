@@ -1,4 +1,5 @@
-//! Defines the command line of `s10`: its subcommands, their words and their options.
+//! Part of `s10_cli`, split off for the prover alone. Defines the command line of `s10`: its
+//! subcommands, their words and their options.
 #![tactic(auto)]
 
 mod audit_command;

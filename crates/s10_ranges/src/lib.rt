@@ -1,5 +1,5 @@
-//! The ranges of a ledger with their marks, held in memory and sorted for look-ups by serial and by
-//! holder.
+//! Part of `s10_index`, split off for the prover alone: the ranges of a ledger with their marks,
+//! held in memory and sorted for look-ups by serial and by holder.
 #![tactic(auto)]
 
 mod closed_ranges;

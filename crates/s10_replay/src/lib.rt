@@ -1,5 +1,5 @@
-//! Reads the calls of a ledger from their rows and executes them again; computes the derived rows
-//! of a call, and compares rows.
+//! Part of `s10_index`, split off for the prover alone. Reads the calls of a ledger from their rows
+//! and executes them again; computes the derived rows of a call, and compares rows.
 #![tactic(auto)]
 
 mod call_reading;

@@ -1,4 +1,4 @@
-//! The two reports of a ledger, over any book.
+//! Part of `s10_book`, split off for the prover alone: the two reports of a ledger, over any book.
 #![tactic(auto)]
 
 mod issues_report;

@@ -1,4 +1,5 @@
-//! The declared tables of a ledger, and what else may be in its database.
+//! Part of `s10_statements`, split off for the prover alone: the declared tables of a ledger, and
+//! what else may be in its database.
 #![tactic(auto)]
 
 mod closed_schema;

@@ -1,4 +1,5 @@
-//! Runs the jobs that need a socket of this machine.
+//! Part of `s10_host`, split off for the prover alone. Runs the jobs that need a socket of this
+//! machine.
 #![tactic(auto)]
 
 mod binding;
