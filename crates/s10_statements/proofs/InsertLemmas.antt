@@ -1,27 +1,25 @@
 -- The tables after the INSERT of a row.
-use Rattle.std.proofs.Common.{◌≡◌, ℕ, pos, List, [], ◌∷◌, ◌++◌, true, None, Ok, refl, sym, ap}
+use Rattle.std.proofs.Common.{◌≡◌, ℕ, pos, List, [], ◌∷◌, ◌++◌, None, Ok, refl, sym, ap}
 use Rattle.std.proofs.Common.{subst, ◌∙◌, map, ℤ}
 use Rattle.std.proofs.Math.Logic.{∥∥₁_map}
 use Rattle.std.specs.List.Sorted.{IsPermutation}
 use Rattle.sqlite_value.specs.declared.value.Value.TheVariants.{Null, Int, Blob}
 use Rattle.sqlite_value.specs.Order.{Row}
 use Rattle.sqlite_trees.specs.Tree.{Trees}
-use Rattle.sqlite_sql.specs.Term.{Term, lit, col}
+use Rattle.sqlite_sql.specs.Term.{Term}
 use Rattle.sqlite_schema.specs.declared.command.Source.TheVariants.{Values}
 use Rattle.sqlite_schema.specs.declared.command.Command.TheVariants.{Insert}
 use Rattle.sqlite_rules.specs.declared.error.Rowids.TheVariants.{Chosen}
 use Rattle.sqlite_rules.specs.Edit.{edit_of, next_rowid}
-use Rattle.sqlite_tied.specs.Compute.{everything}
 use Rattle.sqlite_schema.specs.declared.schema.Schema.{Schema}
 use Rattle.sqlite.specs.Effect.{Database}
 use Rattle.sqlite.specs.Does.{Tally, Does}
 use Rattle.sqlite.specs.Rows.{Written}
-use Rattle.sqlite.specs.Given.{IsPlain}
 use Rattle.sqlite.specs.Listing.{understood}
 use Rattle.sqlite.specs.State.{State, mode_of, Executes}
-use Rattle.sqlite.proofs.Callers.{command_of, statement_of, runs_as}
+use Rattle.sqlite.proofs.Callers.{statement_of, runs_as}
 use Rattle.s10_history.specs.Settings.{Terms}
-use Rattle.s10_schema.specs.Schema.{with_others, with_closed, closed_first, others_after_closed}
+use Rattle.s10_schema.specs.Schema.{with_closed, closed_first, others_after_closed}
 use Rattle.s10_schema.specs.Schema.{head_table, calls_table, ranges_table, serials_table}
 use Rattle.s10_schema.specs.Schema.{closed_table}
 use Rattle.s10_rows.specs.Tables.{Tables, head_row}
@@ -90,10 +88,12 @@ inserted : {sql : List ℕ} {at width : ℕ} {terms : List Term} (o : Schema) (p
     (Ok (tally, new.now))
 inserted {sql} {at} {width} {terms} o params old new count means has h =
     let command = Insert at (Values terms width) in
-    let w = runs_as sql params old new (with_closed o) has command means.is means.plain count h in
-    (w.tally, subst (λ s. Does old.step_limit (mode_of old) params (record old.now { schema = s })
-    (statement_of sql (understood (with_closed o) sql)) None command (Ok (w.tally, new.now))) has
-    w.changed)
+    let w = runs_as sql params old new (with_closed o) has command means.is means.plain count h in (
+      w.tally,
+      subst (λ s. Does old.step_limit (mode_of old) params (record old.now { schema = s })
+          (statement_of sql (understood (with_closed o) sql)) None command (Ok (w.tally, new.now))) has
+          w.changed,
+    )
 
 pub begins : (old new : State) (t : Terms) (count : ℕ) (tables : Tables) → HasTables old.now tables
     → Executes insert_head_sql (given_settings t) old new (Ok count)

@@ -1,5 +1,5 @@
 -- The tables after the write of a serial.
-use Rattle.std.proofs.Common.{◌≡◌, ◌≢◌, inl, inr, arith, ℕ, suc, ℤ, ◌≤◌, drop, List, [], ◌∷◌, ◌++◌}
+use Rattle.std.proofs.Common.{◌≡◌, inl, inr, arith, ℕ, suc, ℤ, ◌≤◌, drop, List, [], ◌∷◌, ◌++◌}
 use Rattle.std.proofs.Common.{length, map, filter, Bool, true, false, not, ◌&&◌, ◌||◌, cond, Option}
 use Rattle.std.proofs.Common.{Some, None, unwrap_or, Ok, refl, sym, ap, subst, ◌∙◌, int_eq, is_eq}
 use Rattle.std.proofs.Math.Logic.{∥∥₁_map, ∥∥₁_elim, ∥∥₁_prop}
@@ -31,7 +31,7 @@ use Rattle.sqlite_rules.specs.Cast.{cast_row}
 use Rattle.sqlite_rules.specs.Calls.{ids_of}
 use Rattle.sqlite_rules.specs.Keys.{AreConflicts, conflicts}
 use Rattle.sqlite_rules.specs.Lists.{Has}
-use Rattle.sqlite_rules.specs.Edit.{taken_by, edit_of, are_fresh, next_rowid, numbered, with_rowid}
+use Rattle.sqlite_rules.specs.Edit.{taken_by, edit_of, next_rowid, numbered, with_rowid}
 use Rattle.sqlite_rules.specs.Edit.{without_all}
 use Rattle.sqlite_rules.specs.Action.{Writes as sqlWrites}
 use Rattle.std.proofs.lemmas.Int.{ints}
@@ -45,7 +45,7 @@ use Rattle.sqlite.specs.Rows.{Written, Task, Tries, Judged, Upserts, Meets, Clea
 use Rattle.sqlite.specs.Rows.{TriesEach, nothing, count_of, rowids_for, mended, shown}
 use Rattle.sqlite.specs.Listing.{understood}
 use Rattle.sqlite.specs.State.{State, mode_of, Executes}
-use Rattle.sqlite.proofs.Callers.{statement_of, runs_as, one_step, one_permutation}
+use Rattle.sqlite.proofs.Callers.{statement_of, runs_as, one_permutation}
 use Rattle.s10_rows.specs.declared.serial_row.SerialRow.{SerialRow}
 use Rattle.s10_rows.specs.declared.serial_write.SerialWrite.TheVariants.{Again}
 use Rattle.s10_schema.specs.Schema.{with_closed, closed_first, others_after_closed, are_apart}

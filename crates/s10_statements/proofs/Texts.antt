@@ -35,10 +35,10 @@ read_of tree filter project order = record {
 
 -- Under the schema the text is this query, and it reads no declarations.
 pub record IsQuery (schema : Schema) (sql : List ℕ) (query : Query) (names : List (List ℕ)) : Type 0
-    where
-  pub is : command_of (understood schema sql) ≡ Select (record { lets = []; body = query }) names
-  pub plain : IsPlain (understood schema sql)
-  pub unlisted : reads_listing schema sql ≡ false
+  where
+    pub is : command_of (understood schema sql) ≡ Select (record { lets = []; body = query }) names
+    pub plain : IsPlain (understood schema sql)
+    pub unlisted : reads_listing schema sql ≡ false
 
 abbrev pub by_one : List Term
 by_one = col 1 0 ∷ []
