@@ -130,7 +130,8 @@ module _ {schema : Schema} {sql : List ℕ} {names : List (List ℕ)} (tree : �
   raw = overlay old.now.trees [] tree
 
   pub answers : IsAnswer query (overlay old.now.trees []) params rows
-  answers = (reads_as sql params old new schema has _ read.is read.plain read.unlisted rows h).answer
+  answers = (reads_as sql params old new schema has _ read.is read.plain read.unlisted rows
+      h).answer
       Null
 
   module _ (columns key : Row → Row) (test : Row → Bool)
@@ -170,7 +171,8 @@ module _ (params : Row) (old new : State) (rows : List Row)
   pub head_shows : Shown select_head_sql params old new rows
       → IsPermutation (map head_columns (old.now.trees 0)) rows
   head_shows h = subst (λ vs. IsPermutation vs rows) (all_pass (map head_columns (old.now.trees 0)))
-      (shows_passing 0 [] head_terms by_one (head_read o) params old new rows has.is h head_columns first_key
+      (shows_passing 0 [] head_terms by_one (head_read o) params old new rows has.is h head_columns
+      first_key
       always (λ r. refl) (λ r. refl))
 
   pub calls_answers : Shown select_calls_sql params old new rows
@@ -179,14 +181,18 @@ module _ (params : Row) (old new : State) (rows : List Row)
 
   pub calls_shows : Shown select_calls_sql params old new rows
       → IsPermutation (map call_columns (old.now.trees 1)) rows
-  calls_shows h = subst (λ vs. IsPermutation vs rows) (all_pass (map call_columns (old.now.trees 1)))
-      (shows_passing 1 [] call_terms by_one (calls_read o) params old new rows has.is h call_columns first_key
+  calls_shows h = subst (λ vs. IsPermutation vs rows) (all_pass (map call_columns (old.now.trees
+      1)))
+      (shows_passing 1 [] call_terms by_one (calls_read o) params old new rows has.is h
+      call_columns first_key
       always (λ r. refl) (λ r. refl))
 
   pub ranges_shows : Shown select_ranges_sql params old new rows
       → IsPermutation (map range_columns (old.now.trees 3)) rows
-  ranges_shows h = subst (λ vs. IsPermutation vs rows) (all_pass (map range_columns (old.now.trees 3)))
-      (shows_passing 3 [] range_terms by_one (ranges_read o) params old new rows has.is h range_columns first_key
+  ranges_shows h = subst (λ vs. IsPermutation vs rows) (all_pass (map range_columns (old.now.trees
+      3)))
+      (shows_passing 3 [] range_terms by_one (ranges_read o) params old new rows has.is h
+      range_columns first_key
       always (λ r. refl) (λ r. refl))
 
   pub within_shows : Shown select_serials_within_sql params old new rows
@@ -196,27 +202,33 @@ module _ (params : Row) (old new : State) (rows : List Row)
 
   pub serials_shows : Shown select_serials_sql params old new rows
       → IsPermutation (map wide_columns (old.now.trees 4)) rows
-  serials_shows h = subst (λ vs. IsPermutation vs rows) (all_pass (map wide_columns (old.now.trees 4)))
-      (shows_passing 4 [] wide_terms by_pair (serials_read o) params old new rows has.is h wide_columns pair_key
+  serials_shows h = subst (λ vs. IsPermutation vs rows) (all_pass (map wide_columns (old.now.trees
+      4)))
+      (shows_passing 4 [] wide_terms by_pair (serials_read o) params old new rows has.is h
+      wide_columns pair_key
       always (λ r. refl) (λ r. refl))
 
   -- Rows of calls in order of arrival.
-  pub calls_rise : (xs : List StoredCall) → IsAscending (λ a b. int_cmp a.arrival b.arrival ≡ Less) xs
+  pub calls_rise : (xs : List StoredCall) → IsAscending (λ a b. int_cmp a.arrival b.arrival ≡ Less)
+      xs
       → IsPermutation (map shown_call xs) (map call_columns (old.now.trees 1))
       → Shown select_calls_sql params old new rows → rows ≡ map shown_call xs
   calls_rise xs up same h = rises 1 [] call_terms by_one (calls_read o) params old new rows has.is h
       call_columns first_key always (λ r. refl) (λ r. refl) shown_call (λ x. x.arrival)
       (λ a b less. rw (value_less a.arrival b.arrival less)) xs up
-      (subst (IsPermutation (map shown_call xs)) (sym (all_pass (map call_columns (old.now.trees 1)))) same)
+      (subst (IsPermutation (map shown_call xs)) (sym (all_pass (map call_columns (old.now.trees
+      1)))) same)
 
   -- Rows of ranges in order of their numbers.
   pub ranges_rise : (xs : List RangeRow) → IsAscending (λ a b. int_cmp a.num b.num ≡ Less) xs
       → IsPermutation (map shown_range xs) (map range_columns (old.now.trees 3))
       → Shown select_ranges_sql params old new rows → rows ≡ map shown_range xs
-  ranges_rise xs up same h = rises 3 [] range_terms by_one (ranges_read o) params old new rows has.is h
+  ranges_rise xs up same h = rises 3 [] range_terms by_one (ranges_read o) params old new rows
+      has.is h
       range_columns first_key always (λ r. refl) (λ r. refl) shown_range (λ x. x.num)
       (λ a b less. rw (value_less a.num b.num less)) xs up
-      (subst (IsPermutation (map shown_range xs)) (sym (all_pass (map range_columns (old.now.trees 3)))) same)
+      (subst (IsPermutation (map shown_range xs)) (sym (all_pass (map range_columns (old.now.trees
+      3)))) same)
 
 module _ (params : Row) (old new : State) (rows : List Row)
     (has : IsClosedSchema old.now.schema) where
@@ -225,18 +237,22 @@ module _ (params : Row) (old new : State) (rows : List Row)
 
   pub closed_shows : Shown select_closed_sql params old new rows
       → IsPermutation (map closed_columns (old.now.trees 6)) rows
-  closed_shows h = subst (λ vs. IsPermutation vs rows) (all_pass (map closed_columns (old.now.trees 6)))
-      (shows_passing 6 [] closed_terms by_one (closed_read after) params old new rows has.is h closed_columns first_key
+  closed_shows h = subst (λ vs. IsPermutation vs rows) (all_pass (map closed_columns (old.now.trees
+      6)))
+      (shows_passing 6 [] closed_terms by_one (closed_read after) params old new rows has.is h
+      closed_columns first_key
       always (λ r. refl) (λ r. refl))
 
   -- Rows of closed in order of the numbers of their ranges.
   pub closed_rise : (xs : List ClosedRow) → IsAscending (λ a b. int_cmp a.num b.num ≡ Less) xs
       → IsPermutation (map shown_closed xs) (map closed_columns (old.now.trees 6))
       → Shown select_closed_sql params old new rows → rows ≡ map shown_closed xs
-  closed_rise xs up same h = rises 6 [] closed_terms by_one (closed_read after) params old new rows has.is h
+  closed_rise xs up same h = rises 6 [] closed_terms by_one (closed_read after) params old new rows
+      has.is h
       closed_columns first_key always (λ r. refl) (λ r. refl) shown_closed (λ x. x.num)
       (λ a b less. rw (value_less a.num b.num less)) xs up
-      (subst (IsPermutation (map shown_closed xs)) (sym (all_pass (map closed_columns (old.now.trees 6)))) same)
+      (subst (IsPermutation (map shown_closed xs)) (sym (all_pass (map closed_columns
+      (old.now.trees 6)))) same)
 
 -- Typed rows.
 

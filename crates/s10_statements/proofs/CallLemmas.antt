@@ -64,7 +64,8 @@ none_called g a = record {
 pub one_called : {S : Type 0} {g : Ghosts S} {a b c : MutBor (Held S)} (ws : List CallWrite) (i : ℕ)
     (w : CallWrite) → i < length ws → w ≡ get_or ws i w
     → (IsOpen g b.now → IsOpen g a.now) → AreCalled g a b (take i ws) → IsOpen g b.now
-    × EditsFittingTables g b c (λ tables. FindAtMostOne w.serials.items tables.serials) (with_call w)
+    × EditsFittingTables g b c (λ tables. FindAtMostOne w.serials.items tables.serials) (with_call
+    w)
     → AreCalled g a c (take (i + 1) ws)
 one_called {g = g} {c = c} ws i w within is opened so_far one =
     let more : take (i + 1) ws ≡ take i ws ++ w ∷ [] = take_more ws i w within

@@ -91,7 +91,8 @@ inserted {sql} {at} {width} {terms} o params old new count means has h =
     let w = runs_as sql params old new (with_closed o) has command means.is means.plain count h in (
       w.tally,
       subst (λ s. Does old.step_limit (mode_of old) params (record old.now { schema = s })
-          (statement_of sql (understood (with_closed o) sql)) None command (Ok (w.tally, new.now))) has
+          (statement_of sql (understood (with_closed o) sql)) None command (Ok (w.tally, new.now)))
+          has
           w.changed,
     )
 
@@ -112,7 +113,8 @@ begins old new t count tables held h =
     ∙ same_value counted.1 in
     let edit = edit_of db head_table [] Chosen 0 given.0 in
     let put = put_one o (mode_of old).keys db written.0 edit (stored_head t)
-    (no_works 0 not_head (closed_first o) (after_apart old.now.schema held.schema) (mode_of old).keys 0 [] edit.news)
+    (no_works 0 not_head (closed_first o) (after_apart old.now.schema held.schema) (mode_of
+    old).keys 0 [] edit.news)
     (ap (λ all. (edit_of db head_table [] Chosen 0 all).news) given.1.1
     ∙ rw (cast_int, cast_null, cast_int, cast_int)) written.1 in
     let at = λ (t : ℕ). ap (λ (d : Database). d.trees t) now ∙ ap (λ (s : Trees). s t) trees in
@@ -120,7 +122,8 @@ begins old new t count tables held h =
     record {
       schema = is_as_it_was old.now.schema new.now.schema held.schema
           (ap (λ (d : Database). d.schema) now);
-      heads = ∥∥₁_map held.heads (λ p. one_more shown_head head_columns tables.heads (head_row t) (db 0) (new.now.trees 0)
+      heads = ∥∥₁_map held.heads (λ p. one_more shown_head head_columns tables.heads (head_row t)
+          (db 0) (new.now.trees 0)
           (stored_head t) refl moved p);
       calls = rw (at 1 ∙ put.1.calls refl) held.calls;
       ranges = rw (at 3 ∙ put.1.ranges refl) held.ranges;
@@ -141,7 +144,8 @@ as_declared old new t count tables held h =
     let now = ap (λ (p : Tally × Database). p.1) (same_value (went (went done.2).2).2) in
     ap (λ (d : Database). d.schema) now ∙ sym has
 
-pub keeps : (old new : State) (call : StoredCall) (count : ℕ) (tables : Tables) → HasTables old.now tables
+pub keeps : (old new : State) (call : StoredCall) (count : ℕ) (tables : Tables) → HasTables old.now
+    tables
     → Executes insert_call_sql (shown_call call) old new (Ok count)
     → HasTables new.now (record tables { calls = tables.calls ++ call ∷ [] })
 keeps old new call count tables held h =
@@ -158,7 +162,8 @@ keeps old new call count tables held h =
     ∙ same_value counted.1 in
     let edit = edit_of db calls_table [] Chosen 0 given.0 in
     let put = put_one o (mode_of old).keys db written.0 edit (stored_call call)
-    (no_works 1 not_calls (closed_first o) (after_apart old.now.schema held.schema) (mode_of old).keys 0 [] edit.news)
+    (no_works 1 not_calls (closed_first o) (after_apart old.now.schema held.schema) (mode_of
+    old).keys 0 [] edit.news)
     (ap (λ all. (edit_of db calls_table [] Chosen 0 all).news) given.1.1
     ∙ rw (cast_int, cast_null, cast_int, cast_int, cast_int)) written.1 in
     let at = λ (t : ℕ). ap (λ (d : Database). d.trees t) now ∙ ap (λ (s : Trees). s t) trees in
@@ -167,7 +172,8 @@ keeps old new call count tables held h =
       schema = is_as_it_was old.now.schema new.now.schema held.schema
           (ap (λ (d : Database). d.schema) now);
       heads = rw (at 0 ∙ put.1.head refl) held.heads;
-      calls = ∥∥₁_map held.calls (λ p. one_more shown_call call_columns tables.calls call (db 1) (new.now.trees 1)
+      calls = ∥∥₁_map held.calls (λ p. one_more shown_call call_columns tables.calls call (db 1)
+          (new.now.trees 1)
           (stored_call call) refl moved p);
       ranges = rw (at 3 ∙ put.1.ranges refl) held.ranges;
       serials = rw (at 4 ∙ put.1.serials refl) held.serials;
@@ -175,7 +181,8 @@ keeps old new call count tables held h =
       closed = rw (at 6 ∙ put.1.closed refl) held.closed;
     }
 
-pub adds_range : (old new : State) (r : RangeRow) (count : ℕ) (tables : Tables) → HasTables old.now tables
+pub adds_range : (old new : State) (r : RangeRow) (count : ℕ) (tables : Tables) → HasTables old.now
+    tables
     → Executes insert_range_sql (shown_range r) old new (Ok count)
     → HasTables new.now (record tables { ranges = tables.ranges ++ r ∷ [] })
 adds_range old new r count tables held h =
@@ -192,7 +199,8 @@ adds_range old new r count tables held h =
     ∙ same_value counted.1 in
     let edit = edit_of db ranges_table [] Chosen 0 given.0 in
     let put = put_one o (mode_of old).keys db written.0 edit (stored_range r)
-    (no_works 3 not_ranges (closed_first o) (after_apart old.now.schema held.schema) (mode_of old).keys 0 [] edit.news)
+    (no_works 3 not_ranges (closed_first o) (after_apart old.now.schema held.schema) (mode_of
+    old).keys 0 [] edit.news)
     (ap (λ all. (edit_of db ranges_table [] Chosen 0 all).news) given.1.1
     ∙ rw (cast_int, cast_null, cast_int, cast_int, cast_int, cast_int, cast_int)) written.1 in
     let at = λ (t : ℕ). ap (λ (d : Database). d.trees t) now ∙ ap (λ (s : Trees). s t) trees in
@@ -202,14 +210,16 @@ adds_range old new r count tables held h =
           (ap (λ (d : Database). d.schema) now);
       heads = rw (at 0 ∙ put.1.head refl) held.heads;
       calls = rw (at 1 ∙ put.1.calls refl) held.calls;
-      ranges = ∥∥₁_map held.ranges (λ p. one_more shown_range range_columns tables.ranges r (db 3) (new.now.trees 3)
+      ranges = ∥∥₁_map held.ranges (λ p. one_more shown_range range_columns tables.ranges r (db 3)
+          (new.now.trees 3)
           (stored_range r) refl moved p);
       serials = rw (at 4 ∙ put.1.serials refl) held.serials;
       numbered = rw (at 4 ∙ put.1.serials refl) held.numbered;
       closed = rw (at 6 ∙ put.1.closed refl) held.closed;
     }
 
-pub adds_serial : (old new : State) (r : SerialRow) (count : ℕ) (tables : Tables) → HasTables old.now tables
+pub adds_serial : (old new : State) (r : SerialRow) (count : ℕ) (tables : Tables) → HasTables
+    old.now tables
     → Executes insert_serial_sql (shown_serial r) old new (Ok count)
     → HasTables new.now (record tables { serials = tables.serials ++ r ∷ [] })
 adds_serial old new r count tables held h =
@@ -226,25 +236,31 @@ adds_serial old new r count tables held h =
     ∙ same_value counted.1 in
     let edit = edit_of db serials_table [] Chosen 0 given.0 in
     let put = put_one o (mode_of old).keys db written.0 edit (stored_serial (next_rowid (db 4)) r)
-    (no_works 4 not_serials (closed_first o) (after_apart old.now.schema held.schema) (mode_of old).keys 0 [] edit.news)
+    (no_works 4 not_serials (closed_first o) (after_apart old.now.schema held.schema) (mode_of
+    old).keys 0 [] edit.news)
     (ap (λ all. (edit_of db serials_table [] Chosen 0 all).news) given.1.1
-    ∙ rw (cast_null, cast_int, cast_int, cast_int, cast_int, cast_int, cast_int, cast_int)) written.1 in
+    ∙ rw (cast_null, cast_int, cast_int, cast_int, cast_int, cast_int, cast_int, cast_int))
+    written.1 in
     let at = λ (t : ℕ). ap (λ (d : Database). d.trees t) now ∙ ap (λ (s : Trees). s t) trees in
-    let moved = subst (IsPermutation ((stored_serial (next_rowid (db 4)) r) ∷ db 4)) (sym (at 4)) put.0 in
+    let moved = subst (IsPermutation ((stored_serial (next_rowid (db 4)) r) ∷ db 4)) (sym (at 4))
+    put.0 in
     record {
       schema = is_as_it_was old.now.schema new.now.schema held.schema
           (ap (λ (d : Database). d.schema) now);
       heads = rw (at 0 ∙ put.1.head refl) held.heads;
       calls = rw (at 1 ∙ put.1.calls refl) held.calls;
       ranges = rw (at 3 ∙ put.1.ranges refl) held.ranges;
-      serials = ∥∥₁_map held.serials (λ p. one_more shown_serial serial_columns tables.serials r (db 4) (new.now.trees 4)
+      serials = ∥∥₁_map held.serials (λ p. one_more shown_serial serial_columns tables.serials r
+          (db 4) (new.now.trees 4)
           (stored_serial (next_rowid (db 4)) r) refl moved p);
-      numbered = all_moved HasIntegerRowid ((stored_serial (next_rowid (db 4)) r) ∷ db 4) (new.now.trees 4) moved
+      numbered = all_moved HasIntegerRowid ((stored_serial (next_rowid (db 4)) r) ∷ db 4)
+          (new.now.trees 4) moved
           (refl, held.numbered);
       closed = rw (at 6 ∙ put.1.closed refl) held.closed;
     }
 
-pub closes : (old new : State) (r : ClosedRow) (count : ℕ) (tables : Tables) → HasTables old.now tables
+pub closes : (old new : State) (r : ClosedRow) (count : ℕ) (tables : Tables) → HasTables old.now
+    tables
     → Executes insert_closed_sql (shown_closed r) old new (Ok count)
     → HasTables new.now (record tables { closed = tables.closed ++ r ∷ [] })
 closes old new r count tables held h =
@@ -261,7 +277,8 @@ closes old new r count tables held h =
     ∙ same_value counted.1 in
     let edit = edit_of db closed_table [] Chosen 0 given.0 in
     let put = put_one o (mode_of old).keys db written.0 edit (stored_closed r)
-    (no_works_closed o (after_apart old.now.schema held.schema) held.schema.tables (mode_of old).keys 0 [] edit.news)
+    (no_works_closed o (after_apart old.now.schema held.schema) held.schema.tables (mode_of
+    old).keys 0 [] edit.news)
     (ap (λ all. (edit_of db closed_table [] Chosen 0 all).news) given.1.1
     ∙ rw (cast_int, cast_null, cast_int)) written.1 in
     let at = λ (t : ℕ). ap (λ (d : Database). d.trees t) now ∙ ap (λ (s : Trees). s t) trees in
@@ -274,6 +291,7 @@ closes old new r count tables held h =
       ranges = rw (at 3 ∙ put.1.ranges refl) held.ranges;
       serials = rw (at 4 ∙ put.1.serials refl) held.serials;
       numbered = rw (at 4 ∙ put.1.serials refl) held.numbered;
-      closed = ∥∥₁_map held.closed (λ p. one_more shown_closed closed_columns tables.closed r (db 6) (new.now.trees 6)
+      closed = ∥∥₁_map held.closed (λ p. one_more shown_closed closed_columns tables.closed r (db
+          6) (new.now.trees 6)
           (stored_closed r) refl moved p);
     }

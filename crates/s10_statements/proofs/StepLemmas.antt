@@ -73,8 +73,10 @@ module _ {S T : Type 0} {g : Ghosts S} {a b : MutBor (Held S)} {P Q : Type 0} wh
 module _ {S T : Type 0} {g : Ghosts S} {a b : MutBor (Held S)} (same : b.ghost_name ≡ a.ghost_name)
     (survives : Survives (state g a.now) (state g b.now) (λ _. ⊥)) where
   -- A statement that ran.
-  pub ran : {r : Result T Error} {Did More Done : Type 0} → (IsClean g b.now → IsInTransaction g a.now
-      → Did × Shows (state g a.now) (state g b.now) (state g b.now).now (state g a.now).committed true
+  pub ran : {r : Result T Error} {Did More Done : Type 0} → (IsClean g b.now → IsInTransaction g
+      a.now
+      → Did × Shows (state g a.now) (state g b.now) (state g b.now).now (state g a.now).committed
+      true
       × More) → (IsOpen g a.now → Did → OnOk r Done) → IsStep g a b r Done
   ran {r} did does = record {
     same_reference = same;

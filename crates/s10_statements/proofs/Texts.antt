@@ -69,7 +69,8 @@ head_terms = col 1 0 ∷ col 1 2 ∷ col 1 3 ∷ col 1 4 ∷ []
 abbrev pub head_query : Query
 head_query = read_of 0 [] head_terms by_one
 
-pub head_read : (o : Schema) → IsQuery (with_others o) select_head_sql head_query (codes "one" ∷ codes "schema" ∷ codes "interval" ∷ codes "cap" ∷ [])
+pub head_read : (o : Schema) → IsQuery (with_others o) select_head_sql head_query (codes "one" ∷
+    codes "schema" ∷ codes "interval" ∷ codes "cap" ∷ [])
 unfolding understood everything
 head_read o = record { is = refl; plain = (refl, refl); unlisted = refl }
 
@@ -86,7 +87,8 @@ range_terms = col 1 0 ∷ col 1 2 ∷ col 1 3 ∷ col 1 4 ∷ col 1 5 ∷ col 1 
 abbrev pub ranges_query : Query
 ranges_query = read_of 3 [] range_terms by_one
 
-pub ranges_read : (o : Schema) → IsQuery (with_others o) select_ranges_sql ranges_query (codes "num" ∷ codes "holder" ∷ codes "pair" ∷ codes "low" ∷ codes "high" ∷ codes "mark" ∷ [])
+pub ranges_read : (o : Schema) → IsQuery (with_others o) select_ranges_sql ranges_query (codes
+    "num" ∷ codes "holder" ∷ codes "pair" ∷ codes "low" ∷ codes "high" ∷ codes "mark" ∷ [])
 unfolding understood everything
 ranges_read o = record { is = refl; plain = (refl, refl); unlisted = refl }
 
@@ -99,7 +101,8 @@ within_tests = equals 1 0 ∷ from_to 2 1 2
 abbrev pub within_query : Query
 within_query = read_of 4 within_tests serial_terms by_pair
 
-pub within_read : (o : Schema) → IsQuery (with_others o) select_serials_within_sql within_query serial_names
+pub within_read : (o : Schema) → IsQuery (with_others o) select_serials_within_sql within_query
+    serial_names
 unfolding understood everything
 within_read o = record { is = refl; plain = (refl, refl); unlisted = refl }
 
@@ -109,7 +112,9 @@ wide_terms = col 1 1 ∷ col 1 2 ∷ col 1 3 ∷ col 1 4 ∷ col 1 5 ∷ col 1 6
 abbrev pub serials_query : Query
 serials_query = read_of 4 [] wide_terms by_pair
 
-pub serials_read : (o : Schema) → IsQuery (with_others o) select_serials_sql serials_query (codes "pair" ∷ codes "serial" ∷ codes "arrival" ∷ codes "day" ∷ codes "customer" ∷ codes "number" ∷ codes "voided" ∷ codes "rowid" ∷ [])
+pub serials_read : (o : Schema) → IsQuery (with_others o) select_serials_sql serials_query (codes
+    "pair" ∷ codes "serial" ∷ codes "arrival" ∷ codes "day" ∷ codes "customer" ∷ codes "number" ∷
+    codes "voided" ∷ codes "rowid" ∷ [])
 unfolding understood everything
 serials_read o = record { is = refl; plain = (refl, refl); unlisted = refl }
 
@@ -119,7 +124,8 @@ closed_terms = col 1 0 ∷ col 1 2 ∷ []
 abbrev pub closed_query : Query
 closed_query = read_of 6 [] closed_terms by_one
 
-pub closed_read : (o : Schema) → IsQuery (with_closed o) select_closed_sql closed_query (codes "num" ∷ codes "arrival" ∷ [])
+pub closed_read : (o : Schema) → IsQuery (with_closed o) select_closed_sql closed_query (codes
+    "num" ∷ codes "arrival" ∷ [])
 unfolding understood everything
 closed_read o = record { is = refl; plain = (refl, refl); unlisted = refl }
 

@@ -37,14 +37,16 @@ settings_means o = record { is = refl; plain = (refl, refl) }
 abbrev pub keep_terms : List Term
 keep_terms = col 0 0 ∷ lit Null ∷ col 0 1 ∷ col 0 2 ∷ col 0 3 ∷ col 0 4 ∷ []
 
-pub keep_means : (o : Schema) → IsCommand (with_closed o) insert_call_sql (Insert 1 (Values keep_terms 6))
+pub keep_means : (o : Schema) → IsCommand (with_closed o) insert_call_sql (Insert 1 (Values
+    keep_terms 6))
 unfolding understood everything
 keep_means o = record { is = refl; plain = (refl, refl) }
 
 abbrev pub grant_terms : List Term
 grant_terms = col 0 0 ∷ lit Null ∷ col 0 1 ∷ col 0 2 ∷ col 0 3 ∷ col 0 4 ∷ col 0 5 ∷ []
 
-pub grant_means : (o : Schema) → IsCommand (with_closed o) insert_range_sql (Insert 2 (Values grant_terms 7))
+pub grant_means : (o : Schema) → IsCommand (with_closed o) insert_range_sql (Insert 2 (Values
+    grant_terms 7))
 unfolding understood everything
 grant_means o = record { is = refl; plain = (refl, refl) }
 
@@ -61,7 +63,11 @@ mark_query = record {
   offset = lit (Int (pos 0));
 }
 
-pub mark_means : (o : Schema) → IsCommand (with_closed o) update_mark_sql (Update 2 (record { lets = []; body = mark_query }))
+pub mark_means : (o : Schema) → IsCommand (with_closed o) update_mark_sql (Update 2 (record {
+  lets
+      = [];
+  body = mark_query;
+}))
 unfolding understood everything
 mark_means o = record { is = refl; plain = (refl, refl) }
 
@@ -88,17 +94,20 @@ issue_upsert = record {
   update = Some (record { lets = []; body = update_query });
 }
 
-pub issue_means : (o : Schema) → IsCommand (with_closed o) insert_serial_sql (Insert 3 (Values issue_terms 8))
+pub issue_means : (o : Schema) → IsCommand (with_closed o) insert_serial_sql (Insert 3 (Values
+    issue_terms 8))
 unfolding understood everything
 issue_means o = record { is = refl; plain = (refl, refl) }
 
-pub again_means : (o : Schema) → IsCommand (with_closed o) upsert_serial_sql (InsertOr 3 Abort (Values issue_terms 8) (issue_upsert ∷ []))
+pub again_means : (o : Schema) → IsCommand (with_closed o) upsert_serial_sql (InsertOr 3 Abort
+    (Values issue_terms 8) (issue_upsert ∷ []))
 unfolding understood everything
 again_means o = record { is = refl; plain = (refl, refl) }
 
 abbrev pub close_terms : List Term
 close_terms = col 0 0 ∷ lit Null ∷ col 0 1 ∷ []
 
-pub close_means : (o : Schema) → IsCommand (with_closed o) insert_closed_sql (Insert 4 (Values close_terms 3))
+pub close_means : (o : Schema) → IsCommand (with_closed o) insert_closed_sql (Insert 4 (Values
+    close_terms 3))
 unfolding understood everything
 close_means o = record { is = refl; plain = (refl, refl) }

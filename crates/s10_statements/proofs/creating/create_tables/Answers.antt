@@ -23,7 +23,8 @@ returns g c =
     × ((state g.S.Store mid.now).now.schema ≡ ledger_schema)) =
     step_then c.in_ok-create_each_table.ensures c.in_ok-insert_head.ensures (λ made row none.
     let it = made none in (row.0 no_rows it.0, row.1 no_rows it.0 ∙ it.1)) in
-    let it = committed {old = c.args.conn.now} {end = c.commit.new.self.0} begun step c.commit.ensures.survives
+    let it = committed {old = c.args.conn.now} {end = c.commit.new.self.0} begun step
+    c.commit.ensures.survives
     c.commit.ensures.ended c.commit.ensures.ok c.commit.ensures.err in
     rw (c.conn-2-1.given.1
     (sym (c.insert_head.ensures.same_reference ∙ c.create_each_table.ensures.same_reference
@@ -70,15 +71,19 @@ returns-in_err-insert_head g c =
     let it = undone {old = c.args.conn.now} {end = c.drop-tx-in_err-insert_head.new.self.0} _
     c.transaction-tx.ensures.begun (step_then c.in_ok-create_each_table.ensures
     c.insert_head.ensures (λ made row. row)) c.from_residual-in_err-insert_head.ensures.1
-    c.drop-tx-in_err-insert_head.ensures.ended c.drop-tx-in_err-insert_head.ensures.undone c.drop-tx-in_err-insert_head.ensures.survives in
+    c.drop-tx-in_err-insert_head.ensures.ended c.drop-tx-in_err-insert_head.ensures.undone
+    c.drop-tx-in_err-insert_head.ensures.survives in
     rw (c.conn-in_err-insert_head-1.given.1
-    (sym (c.insert_head.ensures.same_reference ∙ c.create_each_table.ensures.same_reference ∙ c.transaction-tx.ensures.same_reference)))
+    (sym (c.insert_head.ensures.same_reference ∙ c.create_each_table.ensures.same_reference ∙
+    c.transaction-tx.ensures.same_reference)))
     (record {
       settled = it.settled;
       was = λ clean. (omega (arith, it.clean, clean), it.was_open clean);
       opened = it.opened;
-      all = λ clean none. on_ok_weaker c.from_residual-in_err-insert_head.result (λ out. absurd out.1) (it.done clean);
-      alone = λ clean none. on_ok_weaker c.from_residual-in_err-insert_head.result (λ out. absurd out.1)
+      all = λ clean none. on_ok_weaker c.from_residual-in_err-insert_head.result (λ out. absurd
+          out.1) (it.done clean);
+      alone = λ clean none. on_ok_weaker c.from_residual-in_err-insert_head.result (λ out. absurd
+          out.1)
           (it.done clean);
       none = it.none (λ clean opened. sym (c.is_autocommit.ensures.settled
           (c.is_autocommit.ensures.value ∙ ap not c.requires.idle) opened));

@@ -75,7 +75,9 @@ returns-clause-crash g c =
 
 pub returns-in_err-run : goal.returns-in_err-run
 returns-in_err-run g c =
-    let it = undone {old = c.args.conn.now} {end = c.drop-tx.new.self.0} _ c.transaction-tx.ensures.begun c.run.ensures c.from_residual.ensures.1 c.drop-tx.ensures.ended c.drop-tx.ensures.undone
+    let it = undone {old = c.args.conn.now} {end = c.drop-tx.new.self.0} _
+    c.transaction-tx.ensures.begun c.run.ensures c.from_residual.ensures.1 c.drop-tx.ensures.ended
+    c.drop-tx.ensures.undone
     c.drop-tx.ensures.survives in
     rw (c.conn-1.given.1
     (sym (c.run.ensures.same_reference ∙ c.transaction-tx.ensures.same_reference)))

@@ -42,11 +42,13 @@ returns-in_err-shown g c =
     c.query.follows.holds-at-none in
     let err = (err_from_is_err_and c.from_residual.result c.from_residual.ensures.1).1 in
     record {
-      leaves = failed_leaves g.S.Store c.args.sql.now (bound c.args.params.now) c.requires.plain c.args.conn.now
+      leaves = failed_leaves g.S.Store c.args.sql.now (bound c.args.params.now) c.requires.plain
+          c.args.conn.now
           c.query.follows.lender-at-none refused.survives.clean refused.mode
           c.in_err-shown.field-0.0 (λ clean. if_err c.query.result _ c.in_err-shown.field-0.0
           c.in_err-shown.was (refused.err clean));
-      spares = begun_spares g.S.Store c.args.sql.now (bound c.args.params.now) c.requires.plain c.args.conn.now
+      spares = begun_spares g.S.Store c.args.sql.now (bound c.args.params.now) c.requires.plain
+          c.args.conn.now
           c.query.follows.lender-at-none refused.survives.clean refused.mode refused.survives;
       opened = λ clean. rw err tt;
       rows = λ clean. rw err tt;
@@ -74,7 +76,8 @@ returns-in_err-call_row_in g c =
     moved.survives (λ sure. inl (moved.same sure)) in
     let err = (err_from_is_err_and c.from_residual-in_err-call_row_in.result
     c.from_residual-in_err-call_row_in.ensures.1).1 in
-    rw (c.conn-in_err-call_row_in-1.given.1 (sym (moved.same_reference ∙ c.rows.invariant.same_reference
+    rw (c.conn-in_err-call_row_in-1.given.1 (sym (moved.same_reference ∙
+    c.rows.invariant.same_reference
     ∙ c.in_ok-shown.ensures.same_reference)) ∙ c.drop-shown-in_err-call_row_in.ensures) (record {
       leaves = it.0;
       spares = it.1;
@@ -110,7 +113,8 @@ returns-in_default g c =
       leaves = it.0;
       spares = it.1;
       opened = λ clean. (moved.same clean).0.is_open;
-      rows = λ clean has. ended c.requires.plain c.rows.invariant.so_far now moved.mode moved.survives
+      rows = λ clean has. ended c.requires.plain c.rows.invariant.so_far now moved.mode
+          moved.survives
           (λ sure. subst (λ (r : Option Row). Advances g.S.Store c.rows.shown.conn.now now r) none
           (moved.ok sure)) clean has;
     })

@@ -82,8 +82,10 @@ returns-in_err-serial_with_rowid_in g c =
     moved.survives (λ sure. inl (moved.same sure)) in
     let err = (err_from_is_err_and c.from_residual-in_err-serial_with_rowid_in.result
     c.from_residual-in_err-serial_with_rowid_in.ensures.1).1 in
-    rw (c.conn-in_err-serial_with_rowid_in-1.given.1 (sym (moved.same_reference ∙ c.rows.invariant.same_reference
-    ∙ c.in_ok-shown.ensures.same_reference)) ∙ c.drop-shown-in_err-serial_with_rowid_in.ensures) (record {
+    rw (c.conn-in_err-serial_with_rowid_in-1.given.1 (sym (moved.same_reference ∙
+    c.rows.invariant.same_reference
+    ∙ c.in_ok-shown.ensures.same_reference)) ∙ c.drop-shown-in_err-serial_with_rowid_in.ensures)
+    (record {
       leaves = it.0;
       spares = it.1;
       opened = λ clean. rw err tt;
@@ -118,7 +120,8 @@ returns-in_default g c =
       leaves = it.0;
       spares = it.1;
       opened = λ clean. (moved.same clean).0.is_open;
-      rows = λ clean has. let out = ended c.requires.plain c.rows.invariant.so_far now moved.mode moved.survives
+      rows = λ clean has. let out = ended c.requires.plain c.rows.invariant.so_far now moved.mode
+          moved.survives
           (λ sure. subst (λ (r : Option Row). Advances g.S.Store c.rows.shown.conn.now now r) none
           (moved.ok sure)) clean has in
           (out.0, out.1, out.2.0, out.2.1);

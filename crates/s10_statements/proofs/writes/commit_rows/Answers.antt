@@ -73,7 +73,8 @@ returns-clause-crash g c =
 
 pub returns-in_err-insert_calls : goal.returns-in_err-insert_calls
 returns-in_err-insert_calls g c =
-    let it = undone {old = c.args.conn.now} {end = c.drop-tx.new.self.0} _ c.transaction-tx.ensures.begun c.insert_calls.ensures
+    let it = undone {old = c.args.conn.now} {end = c.drop-tx.new.self.0} _
+    c.transaction-tx.ensures.begun c.insert_calls.ensures
     c.from_residual.ensures.1 c.drop-tx.ensures.ended
     c.drop-tx.ensures.undone c.drop-tx.ensures.survives in
     rw (c.conn-1.given.1

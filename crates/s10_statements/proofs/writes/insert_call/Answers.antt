@@ -17,7 +17,8 @@ returns g c =
     ran c.in_ok-execute.ensures.same_reference c.in_ok-execute.ensures.survives
     c.in_ok-execute.ensures.runs (λ opened did. (
       opened,
-      λ tables held. keeps (state g.S.Store c.args.tx.now.conn.now) (state g.S.Store c.execute.new.self.conn.now) row
+      λ tables held. keeps (state g.S.Store c.args.tx.now.conn.now) (state g.S.Store
+          c.execute.new.self.conn.now) row
           c.in_ok-execute.field-0 tables held
           (rw (
             c.params-to_sql.ensures,

@@ -38,7 +38,8 @@ returns g c =
     (λ serials closed tables held fit. closed _ (rw c.deref-2.ensures.value
     at serials tables held fit)) in
     let rest : IsStep g.S.Store c.insert_call.new.tx.conn new c.insert_if_closed.result
-    (EditsFittingTables g.S.Store c.insert_call.new.tx.conn new few (λ tables. record (with_call w tables) {
+    (EditsFittingTables g.S.Store c.insert_call.new.tx.conn new few (λ tables. record (with_call w
+    tables) {
       heads = tables.heads;
       calls = tables.calls;
     })) = step_then c.in_ok-apply_range_writes.ensures ending

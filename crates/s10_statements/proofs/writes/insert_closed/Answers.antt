@@ -9,10 +9,13 @@ use Rattle.s10_statements.proofs.writes.insert_closed.Goals as goal
 pub returns : goal.returns
 returns g c =
     let num_is : owned c.params-to_sql.result ≡ Int c.args.closed.now.num = search rules in
-    let arrival_is : owned c.params-to_sql-2.result ≡ Int c.args.closed.now.arrival = search rules in
+    let arrival_is : owned c.params-to_sql-2.result ≡ Int c.args.closed.now.arrival = search rules
+    in
     ran c.in_ok-execute.ensures.same_reference c.in_ok-execute.ensures.survives
-    c.in_ok-execute.ensures.runs (λ opened did tables held. closes (state g.S.Store c.args.tx.now.conn.now)
-    (state g.S.Store c.execute.new.self.conn.now) c.args.closed.now c.in_ok-execute.field-0 tables held
+    c.in_ok-execute.ensures.runs (λ opened did tables held. closes (state g.S.Store
+    c.args.tx.now.conn.now)
+    (state g.S.Store c.execute.new.self.conn.now) c.args.closed.now c.in_ok-execute.field-0 tables
+    held
     (rw (num_is, arrival_is) at did))
 
 pub returns-in_err-execute : goal.returns-in_err-execute

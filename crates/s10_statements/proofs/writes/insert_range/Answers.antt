@@ -15,8 +15,10 @@ returns g c =
     let high_is : owned c.params-to_sql-5.result ≡ Int c.args.range.now.high = search rules in
     let mark_is : owned c.params-to_sql-6.result ≡ Int c.args.range.now.mark = search rules in
     ran c.in_ok-execute.ensures.same_reference c.in_ok-execute.ensures.survives
-    c.in_ok-execute.ensures.runs (λ opened did tables held. adds_range (state g.S.Store c.args.tx.now.conn.now)
-    (state g.S.Store c.execute.new.self.conn.now) c.args.range.now c.in_ok-execute.field-0 tables held
+    c.in_ok-execute.ensures.runs (λ opened did tables held. adds_range (state g.S.Store
+    c.args.tx.now.conn.now)
+    (state g.S.Store c.execute.new.self.conn.now) c.args.range.now c.in_ok-execute.field-0 tables
+    held
     (rw (num_is, holder_is, pair_is, low_is, high_is, mark_is) at did))
 
 pub returns-in_err-execute : goal.returns-in_err-execute

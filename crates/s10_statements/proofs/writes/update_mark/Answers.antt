@@ -11,7 +11,8 @@ returns-then-changed-eq1 g c =
     let num_is : owned c.params-to_sql.result ≡ Int c.args.num = search rules in
     let mark_is : owned c.params-to_sql-2.result ≡ Int c.args.mark = search rules in
     ran c.in_ok-changed.ensures.same_reference c.in_ok-changed.ensures.survives
-    c.in_ok-changed.ensures.runs (λ opened did tables held. marks (state g.S.Store c.args.tx.now.conn.now)
+    c.in_ok-changed.ensures.runs (λ opened did tables held. marks (state g.S.Store
+    c.args.tx.now.conn.now)
     (state g.S.Store c.execute.new.self.conn.now) c.args.num c.args.mark tables held
     (rw (c.if-changed-eq1.true, num_is, mark_is) at did))
 
