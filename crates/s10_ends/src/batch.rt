@@ -8,7 +8,7 @@ ghost use Rattle.s10_ends.specs.Batch.{ReceivesAtMost, turns_of_batch};
 
 use crate::committing::commit_if_pending;
 use crate::exchange::Exchange;
-use crate::receiving::receive_batch;
+use crate::receiving::handle_batch;
 use crate::replying::reply_all;
 use crate::server::Server;
 use crate::server_turn::{ServerTurn, Turn};
@@ -54,7 +54,8 @@ pub fn serve_batch<B: GroupCommit, L: Link>(
 {
     let mut taken = Vec::with_capacity(alloc, most as usize)?;
     let mut turns = Vec::with_capacity(alloc, most as usize + 1)?;
-    let ended = receive_batch(server, link, day, most, &mut taken);
+    let first = link.receive();
+    let ended = handle_batch(server, link, first, day, most, &mut taken);
     commit_and_reply(server, link, &taken, &mut turns);
     push_end(ended, &mut turns);
     Ok(turns)

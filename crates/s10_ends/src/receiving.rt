@@ -1,7 +1,8 @@
 //! Receives the datagrams of a server and handles them, without sending a reply.
 
 ghost use Rattle.std.specs.Prelude.{◌≡◌, ◌≤◌, [], length, vec_capacity};
-ghost use Rattle.s10_link.specs.Link.{LeadsTo};
+ghost use Rattle.s10_link.specs.declared.trace.Trace.{Trace};
+ghost use Rattle.s10_link.specs.Link.{LeadsTo, Receives};
 ghost use Rattle.s10_ends.specs.Server.{book_of};
 ghost use Rattle.s10_ends.specs.Turn.{Handles, Takes};
 ghost use Rattle.s10_ends.specs.Batch.{ReceivesBatch, is_reply as is_a_reply};
@@ -10,7 +11,7 @@ use crate::answer::Answer;
 use crate::exchange::Exchange;
 use crate::server::Server;
 use s10_book::Book;
-use s10_link::{Link, LinkFault, Packet};
+use s10_link::{Link, LinkFault, Packet, Peer};
 
 // Receives the next datagram, waiting for it, and handles it on this day.
 pub(crate) fn take<B: Book, L: Link>(
@@ -70,10 +71,12 @@ fn handle_packet<B: Book>(server: &mut Server<B>, packet: Packet, day: u32) -> A
     server.handle(packet.bytes(), day)
 }
 
-// Receives up to `most` datagrams, waiting only for the first, and handles each one.
-pub(crate) fn receive_batch<B: Book, L: Link>(
+// Handles the first datagram of a batch, if one was received, and then those that have already
+// arrived, up to `most` in all. Does not wait.
+pub(crate) fn handle_batch<B: Book, L: Link>(
     server: &mut Server<B>,
     link: &mut L,
+    first: Result<Option<(Peer, Packet)>, LinkFault>,
     day: u32,
     most: u32,
     taken: &mut Vec<Exchange>,
@@ -82,16 +85,22 @@ pub(crate) fn receive_batch<B: Book, L: Link>(
     requires none { taken.old.items ≡ [] }
     requires room { most ≤ vec_capacity taken.old }
     ensures few { length taken.new.items ≤ most }
-    ensures taken { ReceivesBatch (λ before after b answer. Handles B.faults B.honest B.terms
-        B.history B.committed B.clean B.may_find before after day b answer) most
-        (L.trace_of link.old, book_of server.old) (L.trace_of link.new, book_of server.new)
-        taken.new.items result }
+    ensures taken { (begun : Trace) → Receives begun (L.trace_of link.old) first
+        → ReceivesBatch (λ before after b answer. Handles B.faults B.honest B.terms B.history
+        B.committed B.clean B.may_find before after day b answer) most
+        (begun, book_of server.old) (L.trace_of link.new, book_of server.new) taken.new.items
+        result }
     ensures led { LeadsTo L.step link.old link.new }
 {
-    let Some(first) = take(server, link, day)? else {
+    let Some((from, packet)) = first? else {
         return Ok(());
     };
-    taken.push_reserved(first);
+    let answer = handle_packet(server, packet, day);
+    taken.push_reserved(Exchange {
+        from,
+        packet,
+        answer,
+    });
     for _more in 1..most {
         let Some(next) = try_handle_next(server, link, day)? else {
             return Ok(());

@@ -5,7 +5,7 @@ use Rattle.s10_ends.proofs.Batches.{turns_some, turns_few}
 use Rattle.s10_ends.proofs.ReceiveCount.{batch_receives}
 use Rattle.s10_ends.proofs.Standing.{batch_stands}
 use Rattle.s10_link.specs.Link.LeadsTo.{none}
-use Rattle.s10_link.proofs.Led.{led_on}
+use Rattle.s10_link.proofs.Led.{led_on, led_once}
 use Rattle.s10_ends.proofs.batch.serve_batch.Goals as goal
 
 one_more_fits : (most : ℕ) → Fits w32 most → Fits w64 (most + 1)
@@ -26,44 +26,44 @@ room_after most before capacity turns taken now same few room many kept =
 pub overflow_add-most : goal.overflow_add-most
 overflow_add-most g c = one_more_fits c.args.most c.ranges.most
 
-pub receive_batch-ended-requires-clause-some : goal.receive_batch-ended-requires-clause-some
-receive_batch-ended-requires-clause-some g c = c.requires
+pub handle_batch-ended-requires-clause-some : goal.handle_batch-ended-requires-clause-some
+handle_batch-ended-requires-clause-some g c = c.requires
 
-pub receive_batch-ended-requires-clause-none : goal.receive_batch-ended-requires-clause-none
-receive_batch-ended-requires-clause-none g c = c.in_ok-taken.ensures.items
+pub handle_batch-ended-requires-clause-none : goal.handle_batch-ended-requires-clause-none
+handle_batch-ended-requires-clause-none g c = c.in_ok-taken.ensures.items
 
-pub receive_batch-ended-requires-clause-room : goal.receive_batch-ended-requires-clause-room
-receive_batch-ended-requires-clause-room g c = c.in_ok-taken.ensures.capacity
+pub handle_batch-ended-requires-clause-room : goal.handle_batch-ended-requires-clause-room
+handle_batch-ended-requires-clause-room g c = c.in_ok-taken.ensures.capacity
 
 pub commit_and_reply-requires-clause-none : goal.commit_and_reply-requires-clause-none
 commit_and_reply-requires-clause-none g c = c.in_ok-turns.ensures.items
 
 pub commit_and_reply-requires-clause-room : goal.commit_and_reply-requires-clause-room
 commit_and_reply-requires-clause-room g c = room_for c.args.most _ _ _ c.deref.ensures.value
-    c.receive_batch-ended.ensures.few c.in_ok-turns.ensures.capacity
+    c.handle_batch-ended.ensures.few c.in_ok-turns.ensures.capacity
 
 pub push_end-requires : goal.push_end-requires
 push_end-requires g c = room_after c.args.most _ _ _ _ _ c.deref.ensures.value
-    c.receive_batch-ended.ensures.few c.in_ok-turns.ensures.capacity c.commit_and_reply.ensures.many
+    c.handle_batch-ended.ensures.few c.in_ok-turns.ensures.capacity c.commit_and_reply.ensures.many
     c.commit_and_reply.ensures.capacity
 
 pub returns-clause-some : goal.returns-clause-some
 returns-clause-some g c =
-    rw c.push_end.ensures (turns_some c.receive_batch-ended.result
+    rw c.push_end.ensures (turns_some c.handle_batch-ended.result
     c.commit_and_reply.new.turns.items)
 
 pub returns-clause-few : goal.returns-clause-few
 returns-clause-few g c =
     rw c.push_end.ensures (turns_few _ c.args.most _ _ _ _ c.commit_and_reply.new.turns.items
-    c.receive_batch-ended.ensures.taken c.requires c.receive_batch-ended.ensures.few
+    (c.handle_batch-ended.ensures.taken _ c.receive-first.ensures.trace) c.requires c.handle_batch-ended.ensures.few
     (c.commit_and_reply.ensures.many ∙ ap length c.deref.ensures.value))
 
 pub returns-clause-served : goal.returns-clause-served
 returns-clause-served g c = record {
   taken = _;
   between = _;
-  ended = c.receive_batch-ended.result;
-  takes = c.receive_batch-ended.ensures.taken;
+  ended = c.handle_batch-ended.result;
+  takes = c.handle_batch-ended.ensures.taken _ c.receive-first.ensures.trace;
   answered = _;
   answers = rw (← c.deref.ensures.value) c.commit_and_reply.ensures.answered;
   are = c.push_end.ensures;
@@ -135,7 +135,8 @@ pub returns-clause-refused : goal.returns-clause-refused
 returns-clause-refused g c = tt
 
 pub returns-clause-led : goal.returns-clause-led
-returns-clause-led g c = led_on c.receive_batch-ended.ensures.led c.commit_and_reply.ensures.led
+returns-clause-led g c = led_on (led_once c.receive-first.ensures.step)
+    (led_on c.handle_batch-ended.ensures.led c.commit_and_reply.ensures.led)
 
 pub returns-in_err-taken-clause-led : goal.returns-in_err-taken-clause-led
 returns-in_err-taken-clause-led g c = none

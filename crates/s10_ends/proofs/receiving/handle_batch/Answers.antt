@@ -1,11 +1,14 @@
-use Rattle.std.proofs.Common.{◌≡◌, ℕ, ◌<◌, ◌≤◌, [], refl, arith}
+use Rattle.std.proofs.Common.{◌≡◌, ℕ, ◌<◌, ◌≤◌, [], Some, None, refl, subst, arith}
 use Rattle.s10_ends.specs.Batch.ReceivesAll.{none}
 use Rattle.s10_ends.proofs.Filling.{room_for_next, room_for_first, room_kept, one_longer}
 use Rattle.s10_ends.proofs.Filling.{one_pushed, first_pushed, few_of_none, fewer, no_more_than}
 use Rattle.s10_ends.proofs.Filling.{all_held}
 use Rattle.s10_ends.proofs.Batches.{taken_all, one_more, no_more, failed}
+use Rattle.s10_link.specs.Link.{Receives}
+use Rattle.s10_link.specs.Link.LeadsTo.{none as none_led}
+use Rattle.s10_ends.proofs.Turns.{taken_with, quiet_is}
 use Rattle.s10_link.proofs.Led.{led_on}
-use Rattle.s10_ends.proofs.receiving.receive_batch.Goals as goal
+use Rattle.s10_ends.proofs.receiving.handle_batch.Goals as goal
 
 held_few : (held index most : ℕ) → held ≡ index → index ≤ most → held ≤ most
 held_few held index most many few = omega arith
@@ -13,8 +16,8 @@ held_few held index most many few = omega arith
 none_yet : (most : ℕ) → 1 ≤ most → 0 < most
 none_yet most some = omega arith
 
-pub returns-in_err-first-clause-few : goal.returns-in_err-first-clause-few
-returns-in_err-first-clause-few g c = few_of_none c.args.taken.now.items c.args.most c.requires.none
+pub returns-in_err-from-clause-few : goal.returns-in_err-from-clause-few
+returns-in_err-from-clause-few g c = few_of_none c.args.taken.now.items c.args.most c.requires.none
 
 pub returns-in_default-clause-few : goal.returns-in_default-clause-few
 returns-in_default-clause-few g c = few_of_none c.args.taken.now.items c.args.most c.requires.none
@@ -39,18 +42,22 @@ pub returns-clause-few : goal.returns-clause-few
 returns-clause-few g c = held_few _ c.loop-more._more c.args.most c.loop-more.invariant.count
     (c.loop-more.auto._more-end c.requires.some)
 
-pub returns-in_err-first-clause-taken : goal.returns-in_err-first-clause-taken
-returns-in_err-first-clause-taken g c =
-    rw c.requires.none (failed _ c.args.most (
-      g.L.Link.trace_of c.args.link.now,
-      c.args.server.now.book,
-    ) _ [] none _ c.in_err-first.field-0.0 c.from_residual.result
-    (none_yet c.args.most c.requires.some) c.in_err-first.ensures.takes c.from_residual.ensures.1)
+pub returns-in_err-from-clause-taken : goal.returns-in_err-from-clause-taken
+returns-in_err-from-clause-taken g c = λ begun received.
+    rw c.requires.none (failed _ c.args.most (begun, c.args.server.now.book) _ [] none _
+    c.in_err-from.field-0.0 c.from_residual.result (none_yet c.args.most c.requires.some)
+    (subst (Receives begun (g.L.Link.trace_of c.args.link.now)) c.in_err-from.was received, refl)
+    c.from_residual.ensures.1)
 
 pub returns-in_default-clause-taken : goal.returns-in_default-clause-taken
-returns-in_default-clause-taken g c =
-    rw c.requires.none (no_more _ c.args.most _ _ [] none _ c.in_ok-first.field-0
-    (none_yet c.args.most c.requires.some) c.in_ok-first.ensures.takes c.in_default.is)
+returns-in_default-clause-taken g c = λ begun received.
+    rw c.requires.none (no_more _ c.args.most (begun, c.args.server.now.book) _ [] none _ None
+    (none_yet c.args.most c.requires.some) (
+      quiet_is begun (g.L.Link.trace_of c.args.link.now) c.in_ok-from.field-0
+          (subst (Receives begun (g.L.Link.trace_of c.args.link.now)) c.in_ok-from.was received)
+          c.in_default.is,
+      refl,
+    ) refl)
 
 pub loop-more-init : goal.loop-more-init
 loop-more-init g c = record {
@@ -58,20 +65,28 @@ loop-more-init g c = record {
   many = first_pushed c.args.taken.now.items _ _ c.args.taken.now.ok.0 c.requires.none
       c.push_reserved.ensures.len;
   count = rw (c.push_reserved.ensures.items, c.requires.none) refl;
-  takes = rw (c.push_reserved.ensures.items, c.requires.none) (one_more _ c.args.most _ _ [] none _
-      c.in_ok-first.field-0 c.in-Some.first c.in_ok-first.ensures.takes c.in-Some.is);
-  led = c.in_ok-first.ensures.led;
+  takes = λ begun received.
+      rw (c.push_reserved.ensures.items, c.requires.none) (one_more _ c.args.most
+      (begun, c.args.server.now.book) _ [] none _ (Some _) _ (
+        taken_with begun (g.L.Link.trace_of c.args.link.now) c.in_ok-from.field-0 c.in-Some.from
+            c.in-Some.packet _
+            (subst (Receives begun (g.L.Link.trace_of c.args.link.now)) c.in_ok-from.was received)
+            c.in-Some.is (cc),
+        c.handle_packet-answer.ensures.handles,
+      ) refl);
+  led = none_led;
 }
 
 pub returns-in_err-next-clause-taken : goal.returns-in_err-next-clause-taken
-returns-in_err-next-clause-taken g c = failed _ c.args.most _ _ _ c.loop-more.invariant.takes _
-    c.in_err-next.field-0.0 c.from_residual-in_err-next.result
+returns-in_err-next-clause-taken g c = λ begun received. failed _ c.args.most _ _ _
+    (c.loop-more.invariant.takes begun received) _ c.in_err-next.field-0.0
+    c.from_residual-in_err-next.result
     (fewer _ c.loop-more._more c.args.most c.loop-more.invariant.count c.loop-more-test.true)
     c.in_err-next.ensures.takes c.from_residual-in_err-next.ensures.1
 
 pub returns-in_default-2-clause-taken : goal.returns-in_default-2-clause-taken
-returns-in_default-2-clause-taken g c = no_more _ c.args.most _ _ _ c.loop-more.invariant.takes _
-    c.in_ok-next.field-0
+returns-in_default-2-clause-taken g c = λ begun received. no_more _ c.args.most _ _ _
+    (c.loop-more.invariant.takes begun received) _ c.in_ok-next.field-0
     (fewer _ c.loop-more._more c.args.most c.loop-more.invariant.count c.loop-more-test.true)
     c.in_ok-next.ensures.takes c.in_default-2.is
 
@@ -83,14 +98,15 @@ loop-more-preserved g c = record {
       c.push_reserved-in-loop-more.ensures.len;
   count = one_pushed c.loop-more.taken.items _ c.in-Some-2.next c.loop-more._more
       c.loop-more.invariant.count c.push_reserved-in-loop-more.ensures.items;
-  takes = rw c.push_reserved-in-loop-more.ensures.items
-      (one_more _ c.args.most _ _ _ c.loop-more.invariant.takes _ c.in_ok-next.field-0
-      c.in-Some-2.next c.in_ok-next.ensures.takes c.in-Some-2.is);
+  takes = λ begun received. rw c.push_reserved-in-loop-more.ensures.items
+      (one_more _ c.args.most _ _ _ (c.loop-more.invariant.takes begun received) _
+      c.in_ok-next.field-0 c.in-Some-2.next c.in_ok-next.ensures.takes c.in-Some-2.is);
   led = led_on c.loop-more.invariant.led c.in_ok-next.ensures.led;
 }
 
 pub returns-clause-taken : goal.returns-clause-taken
-returns-clause-taken g c = taken_all _ c.args.most _ _ _ c.loop-more.invariant.takes
+returns-clause-taken g c = λ begun received. taken_all _ c.args.most _ _ _
+    (c.loop-more.invariant.takes begun received)
     (all_held _ c.loop-more._more c.args.most c.loop-more.invariant.count
     (c.loop-more.auto._more-end c.requires.some) c.loop-more-test.false)
 
@@ -102,3 +118,9 @@ returns-in_err-next-clause-led g c = led_on c.loop-more.invariant.led c.in_err-n
 
 pub returns-in_default-2-clause-led : goal.returns-in_default-2-clause-led
 returns-in_default-2-clause-led g c = led_on c.loop-more.invariant.led c.in_ok-next.ensures.led
+
+pub returns-in_err-from-clause-led : goal.returns-in_err-from-clause-led
+returns-in_err-from-clause-led g c = none_led
+
+pub returns-in_default-clause-led : goal.returns-in_default-clause-led
+returns-in_default-clause-led g c = none_led
