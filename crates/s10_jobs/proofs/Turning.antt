@@ -26,7 +26,7 @@ use Rattle.s10_book.specs.Book.{Grows}
 use Rattle.s10_ends.proofs.Composing.{all_composed}
 use Rattle.s10_ends.proofs.Stops.{survived}
 use Rattle.s10_jobs.specs.Days.{Gives, IsTaken, AreTaken}
-use Rattle.s10_jobs.specs.Serving.{PrintsBatch, Serves, ServesTurns}
+use Rattle.s10_jobs.specs.Serving.{Serves, ServesTurns}
 
 lead_more : {S : Type 0} (IsStep : S → DatedBatch → S → Type 0) (old : S)
     (batches : List DatedBatch) (mid new : S) (batch : DatedBatch)
@@ -149,11 +149,12 @@ module _ {S D : Type 0} (IsStep : S → DatedBatch → S → Type 0) (gives : D 
     (given : Option ℕ) (old mid new : S) (first then last : D)
     (held before now : Option (List ℕ)) (done count : ℕ)
     (served : HasServed IsStep gives given old mid first then held before done) where
-  batch_more : (batch : DatedBatch) → IsStep mid batch new
+  -- One more batch, whose lines were written.
+  pub batch_served : (batch : DatedBatch) → IsStep mid batch new
       → IsTaken gives given (Some batch.day) then last
       → Appends before now (flat_map turn_line batch.turns)
       → HasServed IsStep gives given old new first last held now (done + length batch.turns)
-  batch_more batch step taken lines = record {
+  batch_served batch step taken lines = record {
     batches = served.batches ++ batch ∷ [];
     lead = lead_more IsStep old served.batches mid new batch served.lead step;
     days = days_more gives given served.batches batch first then last served.days taken;
@@ -166,49 +167,29 @@ module _ {S D : Type 0} (IsStep : S → DatedBatch → S → Type 0) (gives : D 
         (flat_map turn_line batch.turns) served.written lines);
   }
 
-  -- One more batch, whose lines were written.
-  pub batch_served : (Is : List Turn → Type 0) (day most turns : ℕ)
-      → IsTaken gives given (Some day) then last
-      → ((batch : List Turn) → Is batch → IsStep mid (record { day = day; turns = batch }) new)
-      → PrintsBatch Is most before now (Ok turns)
-      → HasServed IsStep gives given old new first last held now (done + turns)
-  batch_served Is day most turns taken step (batch, is, few, (many, some, lines)) =
-      subst (λ n. HasServed IsStep gives given old new first last held now (done + n)) (sym many)
-      (batch_more (record { day = day; turns = batch }) (step batch is) taken lines)
-
   -- One more batch, whose lines were not written.
-  pub batch_unprinted : (Is : List Turn → Type 0) (day most : ℕ) (shown : Result ℕ WriteFault)
-      (result : Result JobStatus WriteFault) (IsFault : WriteFault → Type 0)
-      → IsErrAnd result IsFault → IsTaken gives given (Some day) then last
-      → ((batch : List Turn) → Is batch → IsStep mid (record { day = day; turns = batch }) new)
-      → done + most ≤ count → PrintsBatch Is most before now shown
+  pub batch_unprinted : (batch : DatedBatch) (result : Result JobStatus WriteFault)
+      (IsFault : WriteFault → Type 0) → IsErrAnd result IsFault → IsStep mid batch new
+      → IsTaken gives given (Some batch.day) then last → done + length batch.turns ≤ count
       → ServesOn IsStep gives given old new first last held now count result
-  batch_unprinted Is day most shown (Err fault) IsFault failed taken step room (
-    batch,
-    is,
-    few,
-    lines,
-  ) =
-      let dated : DatedBatch = record { day = day; turns = batch } in
+  batch_unprinted batch (Err fault) IsFault failed step taken room =
       record {
         serves = record {
-          batches = served.batches ++ dated ∷ [];
-          lead = lead_more IsStep old served.batches mid new dated served.lead (step batch is);
+          batches = served.batches ++ batch ∷ [];
+          lead = lead_more IsStep old served.batches mid new batch served.lead step;
           few = omega (
             arith,
-            ap length (turns_more served.batches dated),
-            length-append (turns_in served.batches) batch,
+            ap length (turns_more served.batches batch),
+            length-append (turns_in served.batches) batch.turns,
             served.many,
-            few,
             room,
           );
           shows = tt;
         };
-        days = days_unprinted gives given (days_of (served.batches ++ dated ∷ [])) first last fault
-            (days_more gives given served.batches dated first then last served.days taken);
+        days = days_unprinted gives given (days_of (served.batches ++ batch ∷ [])) first last fault
+            (days_more gives given served.batches batch first then last served.days taken);
       }
-  batch_unprinted Is day most shown (Ok status) IsFault failed taken step room batch =
-      absurd failed
+  batch_unprinted batch (Ok status) IsFault failed step taken room = absurd failed
 
   pub all_served : done ≡ count
       → ServesOn IsStep gives given old mid first then held before count (Ok Done)

@@ -25,15 +25,6 @@ PrintsTurns held now turns count CommandLine = ⊥
 PrintsTurns held now turns count Failed = (length turns < count)
     × Appends held now (flat_map turn_line turns ++ codes "clock\n")
 
--- One batch of at most `most` turns, with their number. Their lines were written unless the writer
--- failed.
-abbrev pub PrintsBatch : (List Turn → Type 0) → ℕ → Option (List ℕ) → Option (List ℕ)
-    → Result ℕ WriteFault → Type 0
-PrintsBatch Is most held now result =
-    (batch : List Turn) × Is batch × (length batch ≤ most)
-    × IfOk result (λ done. (done ≡ length batch) × (1 ≤ done)
-    × Appends held now (flat_map turn_line batch))
-
 -- At most `count` turns, in batches by such steps. Their lines were written unless the writer
 -- failed.
 pub record Serves {S : Type 0} (IsStep : S → DatedBatch → S → Type 0) (old new : S)

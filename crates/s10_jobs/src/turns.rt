@@ -1,13 +1,12 @@
 //! Serves the turns of a server, and prints them.
 
-ghost use Rattle.std.specs.Prelude.{◌≡◌, ◌≢◌, ◌≤◌, ℕ, None, Ok, OnOk};
+ghost use Rattle.std.specs.Prelude.{◌≡◌, ◌≢◌, None, Ok, OnOk};
 ghost use Rattle.std.specs.List.{flat_map};
 ghost use Rattle.std.specs.Io.KnownBytes.{Appends};
 ghost use Rattle.s10_link.specs.Link.{LeadsTo};
 ghost use Rattle.s10_ends.specs.Server.{book_of};
-ghost use Rattle.s10_ends.specs.Batch.{ServesBatch};
 ghost use Rattle.s10_jobs.specs.TurnLines.{turn_line};
-ghost use Rattle.s10_jobs.specs.Serving.{ServesTurns, PrintsBatch};
+ghost use Rattle.s10_jobs.specs.Serving.{ServesTurns};
 
 use crate::days::{Days, next_day};
 use crate::drop_log::DropLog;
@@ -69,42 +68,21 @@ pub fn serve_turns<R: Clock + Eprint, B: GroupCommit + LastFailure, L: Link, D: 
             return fail_by_clock(out);
         };
         let most = (count - done).min(MAX_BATCH);
-        done += serve_batched(&mut drops, alloc, server, link, today, most, out)?;
+        match serve_batch(alloc, server, link, today, most) {
+            Ok(turns) => {
+                print_turns(&mut drops, &turns, out)?;
+                done += turns.len() as u32;
+            }
+            Err(_) => {
+                let turn = serve_batch_of_one(server, link, today);
+                print_turns(&mut drops, &[turn], out)?;
+                done += 1;
+            }
+        }
         failures.eprint_change(server.book().last_failure());
     }
     drops.eprint_rest();
     Ok(JobStatus::Done)
-}
-
-// Serves one batch, prints its turns, and returns the number of turns. If the batch cannot be
-// allocated, one datagram is handled without allocating.
-fn serve_batched<R: Clock + Eprint, B: GroupCommit, L: Link, W: Write>(
-    drops: &mut DropLog<'_, R>,
-    alloc: Global,
-    server: &mut Server<B>,
-    link: &mut L,
-    day: u32,
-    most: u32,
-    out: &mut W,
-) -> Result<u32, WriteFault>
-    requires { 1 ≤ most }
-    ensures printed { PrintsBatch (λ turns. (room : ℕ) × ServesBatch B.faults B.honest B.terms
-        B.history B.committed B.clean B.may_find day room
-        (L.trace_of link.old, book_of server.old) (L.trace_of link.new, book_of server.new) turns)
-        most (W.contents out.old) (W.contents out.new) result }
-    ensures led { LeadsTo L.step link.old link.new }
-{
-    match serve_batch(alloc, server, link, day, most) {
-        Ok(turns) => {
-            print_turns(drops, &turns, out)?;
-            Ok(turns.len() as u32)
-        }
-        Err(_) => {
-            let turn = serve_batch_of_one(server, link, day);
-            print_turns(drops, &[turn], out)?;
-            Ok(1)
-        }
-    }
 }
 
 // Prints the lines of turns and flushes them, and logs the dropped datagrams.

@@ -1,9 +1,11 @@
-use Rattle.std.proofs.Common.{rules, ◌≡◌, ◌≤◌, ℕ, arith, subst, Option}
+use Rattle.std.proofs.Common.{rules, ◌≡◌, ◌≤◌, ◌<◌, ◌+◌, ℕ, [], ◌∷◌, length, arith, subst, ◌∙◌, Option}
 use Rattle.s10_link.specs.Link.LeadsTo.{none}
 use Rattle.s10_link.proofs.Led.{led_on}
+use Rattle.s10_ends.specs.Composed.{IsBatch}
 use Rattle.s10_jobs.specs.Days.{IsTaken}
 use Rattle.s10_jobs.proofs.Turning.{none_served, batch_served, batch_unprinted}
 use Rattle.s10_jobs.proofs.Turning.{all_served, served_to_no_day, as_one}
+use Rattle.s10_jobs.proofs.turns.serve_turns.Goals.{in-Ok+in_ok-print_turns-in-Ok, in-Err+in_ok-print_turns-in-Err}
 use Rattle.s10_jobs.proofs.turns.serve_turns.Goals as goal
 
 pub loop-done-init : goal.loop-done-init
@@ -15,35 +17,97 @@ loop-done-init g c = record {
   led = none;
 }
 
-pub returns-in_err-done-clause-turns : goal.returns-in_err-done-clause-turns
-returns-in_err-done-clause-turns g c =
+-- What begins in a state begins in the same state.
+begun_alike : {T B : Type 0} (Is : T × B → Type 0) (t u : T) (b d : B) → u ≡ t → d ≡ b → Is (u, d)
+    → Is (t, b)
+begun_alike Is t u b d first second is =
+    subst (λ x. Is (x, b)) first (subst (λ x. Is (u, x)) second is)
+
+one_fits : (done count : ℕ) → done < count → done + 1 ≤ count
+one_fits done count more = omega (arith, more)
+
+fits_in : (done count most turns : ℕ) → done + most ≤ count → turns ≤ most → done + turns ≤ count
+fits_in done count most turns room few = omega (arith, room, few)
+
+pub returns-in_err-print_turns-in-Ok-clause-turns : goal.returns-in_err-print_turns-in-Ok-clause-turns
+returns-in_err-print_turns-in-Ok-clause-turns g c =
     as_one _ _ _ _ _ _ _ g.met.B.Book.legal g.met.B.Book.first g.met.B.Book.found g.D.Days.gives
     c.args.day _ _ _ _ _ _ _ _
     (batch_unprinted _ g.D.Days.gives c.args.day _ _ _ _ _ _ _ _ _ c.loop-done.done c.args.count
     c.loop-done.invariant.served
-    _ c.in-Some.today c.min-most.result c.serve_batched.result c.from_residual.result _
-    c.from_residual.ensures.1
+    (record { day = c.in-Some.today; turns = c.in-Ok.turns.items }) c.from_residual.result _
+    c.from_residual.ensures.1 (c.min-most.result, c.in-Ok.ensures.served)
     (subst (λ (d : Option ℕ). IsTaken g.D.Days.gives c.args.day d c.loop-done.days
     c.next_day.new.days) c.in-Some.is c.next_day.ensures)
-    (λ batch is. is)
+    (fits_in c.loop-done.done c.args.count c.min-most.result (length c.in-Ok.turns.items)
     (let few = c.min-most.ensures in let test = c.loop-done-test.true in grind arith)
-    c.serve_batched.ensures.printed)
+    c.in-Ok.ensures.few))
+
+pub returns-in_err-print_turns-in-Err-clause-turns : goal.returns-in_err-print_turns-in-Err-clause-turns
+returns-in_err-print_turns-in-Err-clause-turns g c =
+    as_one _ _ _ _ _ _ _ g.met.B.Book.legal g.met.B.Book.first g.met.B.Book.found g.D.Days.gives
+    c.args.day _ _ _ _ _ _ _ _
+    (batch_unprinted _ g.D.Days.gives c.args.day _ _ _ _ _ _ _ _ _ c.loop-done.done c.args.count
+    c.loop-done.invariant.served
+    (record { day = c.in-Some.today; turns = c.serve_batch_of_one-turn.result ∷ [] })
+    c.from_residual-in_err-print_turns-in-Err.result _
+    c.from_residual-in_err-print_turns-in-Err.ensures.1
+    (begun_alike (λ at. IsBatch g.B.Book.faults g.B.Book.honest g.B.Book.terms g.B.Book.history
+    g.B.Book.committed g.B.Book.clean g.B.Book.may_find at
+    (record { day = c.in-Some.today; turns = c.serve_batch_of_one-turn.result ∷ [] }) (
+      g.L.Link.trace_of c.serve_batch_of_one-turn.new.link,
+      c.serve_batch_of_one-turn.new.server.book,
+    )) _ _ _ _ c.in-Err.ensures.refused.0 c.in-Err.ensures.refused.1
+    (1, c.serve_batch_of_one-turn.ensures.served))
+    (subst (λ (d : Option ℕ). IsTaken g.D.Days.gives c.args.day d c.loop-done.days
+    c.next_day.new.days) c.in-Some.is c.next_day.ensures)
+    (one_fits c.loop-done.done c.args.count c.loop-done-test.true))
+
+pub returns-in_err-print_turns-in-Ok-clause-led : goal.returns-in_err-print_turns-in-Ok-clause-led
+returns-in_err-print_turns-in-Ok-clause-led g c =
+    led_on c.loop-done.invariant.led c.in-Ok.ensures.led
+
+pub returns-in_err-print_turns-in-Err-clause-led : goal.returns-in_err-print_turns-in-Err-clause-led
+returns-in_err-print_turns-in-Err-clause-led g c =
+    led_on c.loop-done.invariant.led (led_on c.in-Err.ensures.led c.serve_batch_of_one-turn.ensures.led)
 
 pub loop-done-preserved : goal.loop-done-preserved
-loop-done-preserved g c =
-    let shown = c.in_ok-done.ensures.printed in
-    record {
-      few = let few = c.min-most.ensures in let test = c.loop-done-test.true in let short =
-          shown.2 in let many = shown.3.0 in grind arith;
-      served = batch_served _ g.D.Days.gives c.args.day _ _ _ _ _ _ _ _ _ c.loop-done.done
-          c.args.count c.loop-done.invariant.served
-          _ c.in-Some.today c.min-most.result c.in_ok-done.field-0
-          (subst (λ (d : Option ℕ). IsTaken g.D.Days.gives c.args.day d c.loop-done.days
-          c.next_day.new.days) c.in-Some.is c.next_day.ensures)
-          (λ batch is. is)
-          c.in_ok-done.ensures.printed;
-      led = led_on c.loop-done.invariant.led c.in_ok-done.ensures.led;
-    }
+loop-done-preserved g c = elim c.match-serve_batch.branch [
+  | in-Ok+in_ok-print_turns-in-Ok w ↦
+      let many : w.len.result ≡ length w.in-Ok.turns.items = w.len.ensures ∙ w.in-Ok.turns.ok.0 in
+      rw (w.done-is, w.out-is, w.link-is, w.server-is, many) (record {
+        few = fits_in c.loop-done.done c.args.count c.min-most.result (length w.in-Ok.turns.items)
+            (let few = c.min-most.ensures in let test = c.loop-done-test.true in grind arith)
+            w.in-Ok.ensures.few;
+        served = batch_served _ g.D.Days.gives c.args.day _ _ _ _ _ _ _ _ _ c.loop-done.done
+            c.args.count c.loop-done.invariant.served
+            (record { day = c.in-Some.today; turns = w.in-Ok.turns.items })
+            (c.min-most.result, w.in-Ok.ensures.served)
+            (subst (λ (d : Option ℕ). IsTaken g.D.Days.gives c.args.day d c.loop-done.days
+            c.next_day.new.days) c.in-Some.is c.next_day.ensures)
+            (rw (← w.deref.ensures.value) w.in_ok-print_turns-in-Ok.ensures);
+        led = led_on c.loop-done.invariant.led w.in-Ok.ensures.led;
+      })
+  | in-Err+in_ok-print_turns-in-Err w ↦
+      rw (w.done-is, w.out-is, w.link-is, w.server-is) (record {
+        few = one_fits c.loop-done.done c.args.count c.loop-done-test.true;
+        served = batch_served _ g.D.Days.gives c.args.day _ _ _ _ _ _ _ _ _ c.loop-done.done
+            c.args.count c.loop-done.invariant.served
+            (record { day = c.in-Some.today; turns = w.serve_batch_of_one-turn.result ∷ [] })
+            (begun_alike (λ at. IsBatch g.B.Book.faults g.B.Book.honest g.B.Book.terms
+            g.B.Book.history g.B.Book.committed g.B.Book.clean g.B.Book.may_find at
+            (record { day = c.in-Some.today; turns = w.serve_batch_of_one-turn.result ∷ [] }) (
+              g.L.Link.trace_of w.serve_batch_of_one-turn.new.link,
+              w.serve_batch_of_one-turn.new.server.book,
+            )) _ _ _ _ w.in-Err.ensures.refused.0 w.in-Err.ensures.refused.1
+            (1, w.serve_batch_of_one-turn.ensures.served))
+            (subst (λ (d : Option ℕ). IsTaken g.D.Days.gives c.args.day d c.loop-done.days
+            c.next_day.new.days) c.in-Some.is c.next_day.ensures)
+            w.in_ok-print_turns-in-Err.ensures;
+        led = led_on c.loop-done.invariant.led (led_on w.in-Err.ensures.led
+            w.serve_batch_of_one-turn.ensures.led);
+      })
+]
 
 pub overflow_add-done : goal.overflow_add-done
 overflow_add-done c = search rules
@@ -72,6 +136,3 @@ returns-in_default-clause-turns g c =
     (subst (λ (d : Option ℕ). IsTaken g.D.Days.gives c.args.day d c.loop-done.days
     c.next_day.new.days) c.in_default.is c.next_day.ensures)
     c.fail_by_clock.ensures)
-
-pub returns-in_err-done-clause-led : goal.returns-in_err-done-clause-led
-returns-in_err-done-clause-led g c = led_on c.loop-done.invariant.led c.in_err-done.ensures.led
