@@ -6,7 +6,6 @@ pub mod Inserting
 pub mod Reserving
 pub mod LastRows
 pub mod ReplayedBookLemmas
-pub mod Earlier
 pub mod IssueLemmas
 pub mod Voiding
 pub mod WrittenLemmas

@@ -9,6 +9,7 @@ ghost use Rattle.s10_history.specs.History.{day_of, ranges_of, find_entry, entry
 ghost use Rattle.s10_history.specs.Issues.{issues_of, last_issuance_of, last_issue_of};
 ghost use Rattle.s10_history.specs.Issues.{candidate_after_of, size_of, pick_of};
 ghost use Rattle.s10_book.specs.Rules.{IsLegal, MayFollow};
+ghost use Rattle.s10_ranges.specs.Moves.{AreMoves};
 
 use crate::call_key::CallKey;
 use crate::call_log::CallLog;
@@ -17,7 +18,7 @@ use crate::last_issues::{record_call, recorded_issue};
 use crate::positions::{find_in, position_of, record_position};
 use s10_core::{Id, Serial};
 use s10_history::{Candidate, Entry, Issuance, Issue, Range};
-use s10_ranges::Ranges;
+use s10_ranges::{MarkMove, Ranges};
 use std::alloc::{AllocError, Global};
 use std::collections::HashMap;
 
@@ -169,17 +170,19 @@ impl CallIndex {
 
     /// Adds a call and records what it did.
     ///
-    /// Requires memory reserved for the call by `reserve`, and an outcome that fits the request.
-    pub fn follow(&mut self, entry: Entry)
+    /// `moves` are those that `Ranges::moves_of` returns for the call. Requires memory reserved for the
+    /// call by `reserve`, and an outcome that fits the request.
+    pub fn follow(&mut self, entry: Entry, moves: &[MarkMove])
         requires room { HasRoomFor self.old entry }
         requires few { length self.old.entries.items < 4294967295 }
         requires fits { IsTrue (fits entry.request.body entry.outcome) }
         ensures calls { self.new.entries.items ≡ self.old.entries.items ++ entry ∷ [] }
         ensures followed { (h : List Entry) (t : Terms) → IsLegal h t → MayFollow h t entry
-            → Indexes self.old h → Indexes self.new (h ++ entry ∷ []) }
+            → AreMoves h entry moves.now → Indexes self.old h
+            → Indexes self.new (h ++ entry ∷ []) }
     {
         let place = self.calls().len() as u32;
-        self.ranges.follow(&entry);
+        self.ranges.follow(&entry, moves);
         record_position(&mut self.positions, &entry, place);
         record_call(&mut self.issues, &entry);
         self.entries.push_reserved(entry);

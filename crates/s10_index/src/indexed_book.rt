@@ -27,6 +27,8 @@ use std::alloc::{AllocError, Global};
 /// `usage` looks up each serial of the range; no other read walks the serials or the calls.
 #[derive(Drop)]
 pub struct IndexedBook {
+    /// The allocator of the moves of a call.
+    alloc: Global,
     /// The reuse interval in days and the limit.
     settings: Settings,
     /// The faults counted.
@@ -47,6 +49,7 @@ impl IndexedBook {
         ensures honest { ⟦<IndexedBook as Book>⟧.honest result }
     {
         IndexedBook {
+            alloc,
             settings,
             faults: Faults::none(),
             index: CallIndex::new(alloc),
@@ -71,9 +74,11 @@ impl IndexedBook {
             ++ entry ∷ []) }
         ensures err { OnErr result (self.new.index.entries.items ≡ self.old.index.entries.items) }
     {
+        // Brings len() <= MAX_LIMIT into scope.
         let _len = self.len();
+        let moves = self.index.ranges().moves_of(self.alloc, &entry)?;
         self.index.reserve(&entry)?;
-        self.index.follow(entry);
+        self.index.follow(entry, &moves);
         Ok(())
     }
 

@@ -13,6 +13,7 @@ ghost use Rattle.s10_history.specs.History.{has_key};
 ghost use Rattle.s10_history.specs.Settings.{Terms};
 ghost use Rattle.s10_history.specs.declared.settings.TheConstants.{MAX_LIMIT};
 ghost use Rattle.s10_book.specs.Rules.{IsLegal, MayFollow};
+ghost use Rattle.s10_ranges.specs.Moves.{AreMoves};
 ghost use Rattle.s10_index.specs.CallIndex.{Indexes, HasRoomFor};
 ghost use Rattle.s10_rows.specs.declared.call_write.CallWrite.{CallWrite};
 ghost use Rattle.s10_rows.specs.CallWrite.{AreWritten};
@@ -24,6 +25,7 @@ ghost use Rattle.s10_ledger.specs.Faults.{IsReasonFor};
 ghost use Rattle.s10_ledger.specs.Pending.{calls_of, IsWriteOf, IsWrittenWith};
 
 use crate::faults::keep_failure;
+use crate::prepared_call::PreparedCall;
 use s10_book::BookFault;
 use s10_history::Entry;
 use s10_index::{CallIndex, call_write};
@@ -76,13 +78,14 @@ pub(crate) fn commit_calls<S: Alter>(
 }
 
 // Reserves memory for the call in the index, whose calls are unchanged, and returns what the call
-// writes after those of the index. `Store` if the limit is reached, `Memory` if out of memory.
-fn prepared_write(
+// writes and moves after those of the index. `Store` if the limit is reached, `Memory` if out of
+// memory.
+fn prepare_call(
     alloc: Global,
     index: &mut CallIndex,
     limit: u32,
     entry: &Entry,
-) -> Result<CallWrite, BookFault>
+) -> Result<PreparedCall, BookFault>
     requires limit { limit ≤ MAX_LIMIT }
     ensures fault { result ≢ Err Full }
     ensures same_calls { index.new.entries.items ≡ index.old.entries.items }
@@ -90,8 +93,10 @@ fn prepared_write(
     ensures few { OnOk result (length index.new.entries.items < MAX_LIMIT) }
     ensures room { OnOk result (HasRoomFor index.new entry.now) }
     ensures fits { OnOk result (IsTrue (fits entry.now.request.body entry.now.outcome)) }
-    ensures entry { IfOk result (λ write. write.entry ≡ entry.now) }
-    ensures writes { IfOk result (IsWriteOf index.old entry.now) }
+    ensures entry { IfOk result (λ call. call.write.entry ≡ entry.now) }
+    ensures writes { IfOk result (λ call. IsWriteOf index.old entry.now call.write) }
+    ensures moves { (h : List Entry) (t : Terms) → IsLegal h t → MayFollow h t entry.now
+        → Indexes index.old h → IfOk result (λ call. AreMoves h entry.now call.moves.items) }
     ensures memory { (h : List Entry) (t : Terms) → IsLegal h t → MayFollow h t entry.now
         → Indexes index.old h → t.limit ≤ limit → IfErr result (λ f. f ≡ BookFault.Memory) }
 {
@@ -102,7 +107,11 @@ fn prepared_write(
     if index.reserve(entry).is_err() {
         return Err(BookFault::Memory);
     }
-    call_write(alloc, index, held as u32 + 1, entry)
+    let Ok(moves) = index.ranges().moves_of(alloc, entry) else {
+        return Err(BookFault::Memory);
+    };
+    let write = call_write(alloc, index, &moves, held as u32 + 1, entry)?;
+    Ok(PreparedCall { write, moves })
 }
 
 // Appends the call to the index and to the pending calls, or leaves both as they are. `Store` if
@@ -132,11 +141,11 @@ pub(crate) fn append_pending(
     ensures memory { (h : List Entry) (t : Terms) → IsLegal h t → MayFollow h t entry.now
         → Indexes index.old h → t.limit ≤ limit → IfErr result (λ f. f ≡ BookFault.Memory) }
 {
-    let write = prepared_write(alloc, index, limit, entry)?;
+    let PreparedCall { write, moves } = prepare_call(alloc, index, limit, entry)?;
     if pending.push(write).is_err() {
         return Err(BookFault::Memory);
     }
-    index.follow(*entry);
+    index.follow(*entry, &moves);
     Ok(())
 }
 
@@ -186,7 +195,7 @@ pub(crate) fn keep_call<S: Alter>(
         entry }
     ensures works { OnOk result (last_failure.new ≡ None) }
 {
-    let last = prepared_write(alloc, index, limit, &entry)?;
+    let PreparedCall { write: last, moves } = prepare_call(alloc, index, limit, &entry)?;
     if pending.push(last).is_err() {
         return Err(BookFault::Memory);
     }
@@ -194,7 +203,7 @@ pub(crate) fn keep_call<S: Alter>(
         let _ = pending.pop();
         return Err(fault);
     }
-    index.follow(entry);
+    index.follow(entry, &moves);
     Ok(())
 }
 

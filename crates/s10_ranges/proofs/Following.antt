@@ -18,7 +18,7 @@ use Rattle.s10_history.specs.declared.range.Range.{Range}
 use Rattle.s10_history.specs.declared.issuance.Issuance.{Issuance}
 use Rattle.s10_history.specs.Settings.{Terms}
 use Rattle.s10_history.specs.History.{ranges_of, range_of_grant, overlaps, lies_in}
-use Rattle.s10_history.specs.Issues.{issues_of, issues_at}
+use Rattle.s10_history.specs.Issues.{issues_of}
 use Rattle.s10_book.specs.Rules.{IsLegal, MayFollow, body_answer}
 use Rattle.s10_history.proofs.Numbering.{Contains-find, found_passes}
 use Rattle.s10_history.proofs.Push.{ranges_from-push, length-ranges_from}
@@ -35,8 +35,7 @@ use Rattle.s10_ranges.specs.Sound.{AreSound}
 use Rattle.s10_ranges.proofs.Found.{find_none, find_first}
 use Rattle.s10_ranges.proofs.Marked.{mark_at_issues}
 use Rattle.s10_ranges.proofs.Orders.{at_place}
-use Rattle.s10_ranges.proofs.Carrying.{issues_upto, upto_next, picked_at, carried_at}
-use Rattle.s10_ranges.proofs.Turning.{AtPicks, at_picks, in_order, none_granted, mark_new}
+use Rattle.s10_ranges.proofs.Turning.{AtPicks, in_order, none_granted, mark_new}
 use Rattle.s10_ranges.proofs.Turning.{mark_inside, mark_outside}
 
 -- A range that is found has the number of one of the list.
@@ -219,6 +218,28 @@ one_place h t x i k d legal lt lt' li lk =
       ]
     ]
 
+-- The range of a pick is found by its identifier.
+pub find_picked : (h : List Entry) (t : Terms) (customer day : ℕ) (is : List Issuance) (c : ℕ × Id)
+    → IsLegal h t → (from : IsPicked (ranges_of h) customer day t.interval is c)
+    → find (overlaps c.1.service c.1.country c.1.serial c.1.serial) (ranges_of h) ≡ Some from.range
+find_picked h t customer day is c legal from =
+    let rs : List Range = ranges_of h in
+    let x : Id = c.1 in
+    let r : Range = from.range in
+    let lies : lies_in r x ≡ true = lies_picked h t customer day t.interval is c legal from in
+    let k : ℕ = from.there.0 in
+    let lt : k < length rs = from.there.1 in
+    let own : get_or rs k r ≡ r = from.there.2 in
+    let lies_there : (d : Range) → lies_in (get_or rs k d) x ≡ true =
+    λ d. ap (λ (s : Range). lies_in s x) (at_place rs k d r lt own) ∙ lies in
+    find_first (overlaps x.service x.country x.serial x.serial) rs k r lt own
+    (and_from _ _ lies (le-leb x.serial x.serial (omega arith)))
+    (λ i d below. false_from_ne_true (overlaps x.service x.country x.serial x.serial
+    (get_or rs i d)) (λ also.
+    let both = and_parts _ _ also in
+    let e' : i ≡ k = one_place h t x i k d legal (omega (arith, below, lt)) lt both.0
+    (lies_there d) in omega (arith, e', below)))
+
 -- Advancing the mark of a range mirrors the issuance of its pick.
 pub issue_mirrors : (old new : Ranges) (h : List Entry) (t : Terms) (e : Entry) (arrival : ℕ)
     (is : List Issuance) (c : ℕ × Id) → IsLegal h t → AreSound old.ranges.items
@@ -242,15 +263,8 @@ issue_mirrors old new h t e arrival is c legal sound turns from m kept turned =
     let at : (d : Range) → get_or rs k d ≡ r = λ d. at_place rs k d r lt own in
     let lies_there : (d : Range) → lies_in (get_or rs k d) x ≡ true =
     λ d. ap (λ (s : Range). lies_in s x) (at d) ∙ lies in
-    let hit : overlaps x.service x.country x.serial x.serial r ≡ true =
-    and_from _ _ lies (le-leb x.serial x.serial (omega arith)) in
     let found : find (overlaps x.service x.country x.serial x.serial) rs ≡ Some r =
-    find_first (overlaps x.service x.country x.serial x.serial) rs k r lt own hit
-    (λ i d below. false_from_ne_true (overlaps x.service x.country x.serial x.serial
-    (get_or rs i d)) (λ also.
-    let both = and_parts _ _ also in
-    let e' : i ≡ k = one_place h t x i k d legal (omega (arith, below, lt)) lt both.0
-    (lies_there d) in omega (arith, e', below))) in
+    find_picked h t e.request.customer e.day is c legal from in
     let sound' : AreSound rs = subst AreSound m.ranges sound in
     let num = sound' k r lt in
     let place : r.num - 1 ≡ k = omega (arith, num.num, ap (λ (s : Range). s.num) own) in
@@ -272,25 +286,3 @@ issue_mirrors old new h t e arrival is c legal sound turns from m kept turned =
           m.ranges ∙ found) (mark_at_issues old rs is r sound m from.there)
           ∙ ap₂ (λ (l : List Mark) (n : ℕ). set l n v) m.marks place ∙ moved;
     }
-
--- Advancing the mark of a range mirrors the issuance at an index of a call.
-pub turned_mirrors : (old new : Ranges) (h : List Entry) (t : Terms) (e : Entry) (place : ℕ)
-    (i : Issuance) → IsLegal h t → MayFollow h t e → AreSound old.ranges.items
-    → slice_get (issues_at 0 e) place ≡ Some i → MirrorsAt (ranges_of h) (issues_upto h e place) old
-    → new.ranges.items ≡ old.ranges.items
-    → ((r : Range) (m : Mark) → find (overlaps i.id.service i.id.country i.id.serial i.id.serial)
-    old.ranges.items ≡ Some r → slice_get old.marks.items (r.num - 1) ≡ Some m
-    → new.marks.items ≡ set old.marks.items (r.num - 1) (mark_after r m.lap i.id.serial))
-    → MirrorsAt (ranges_of h) (issues_upto h e (place + 1)) new
-turned_mirrors old new h t e place i legal may sound at m kept turned =
-    let found = carried_at e 0 place i at in
-    let c : ℕ × Id = found.0 in
-    let T : Issuance → Type 0 =
-    λ j. (r : Range) (m : Mark) → find (overlaps j.id.service j.id.country j.id.serial j.id.serial)
-    old.ranges.items ≡ Some r → slice_get old.marks.items (r.num - 1) ≡ Some m
-    → new.marks.items ≡ set old.marks.items (r.num - 1) (mark_after r m.lap j.id.serial) in
-    let Q : List Issuance → Type 0 = λ is. MirrorsAt (ranges_of h) is new in
-    subst Q (sym (upto_next h e place c found.1))
-    (issue_mirrors old new h t e (1 + length h) (issues_upto h e place) c legal sound
-    (at_picks h t e place legal may) (picked_at h t e place c may found.1) m kept
-    (subst T (sym found.2) turned))

@@ -8,4 +8,6 @@ pub mod Carrying
 pub mod Turning
 pub mod Marked
 pub mod Following
+pub mod Earlier
+pub mod Moving
 pub mod Opening

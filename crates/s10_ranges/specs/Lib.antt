@@ -5,3 +5,4 @@ pub mod Room
 pub mod Laps
 pub mod ClosedRanges
 pub mod Mirror
+pub mod Moves

@@ -6,8 +6,10 @@ mod closed_ranges;
 mod insertion;
 mod keys;
 mod lap;
+mod lap_at;
 mod lookups;
 mod mark;
+mod mark_move;
 mod next_mark;
 mod order;
 mod ranges;
@@ -15,4 +17,5 @@ mod sort_key;
 
 pub use lap::Lap;
 pub use mark::Mark;
+pub use mark_move::MarkMove;
 pub use ranges::Ranges;

@@ -7,15 +7,16 @@ ghost use Rattle.s10_ranges.specs.declared.sort_key.SortKey.TheVariants.{First, 
 ghost use Rattle.s10_ranges.specs.Keys.{key_by};
 ghost use Rattle.s10_ranges.specs.Order.{IsOrder};
 ghost use Rattle.s10_ranges.specs.Sound.{AreSound};
-ghost use Rattle.s10_ranges.specs.Laps.{mark_after};
 
 use crate::closed_ranges::ClosedRanges;
 use crate::insertion::{index_by_holder, index_by_serial};
 use crate::lap::Lap;
+use crate::lap_at::lap_at;
 use crate::lookups::{covering_in, mark_in, next_held_in, range_in};
 use crate::mark::Mark;
+use crate::mark_move::MarkMove;
 use crate::next_mark::next_mark;
-use s10_core::{Country, Id, Serial, Service};
+use s10_core::{Country, Serial, Service};
 use s10_history::{Entry, Range};
 use s10_wire::Outcome;
 use std::alloc::{AllocError, Global};
@@ -49,11 +50,13 @@ impl Ranges {
     ghost use Rattle.s10_history.specs.declared.range.Range.{Range};
     ghost use Rattle.s10_ranges.specs.declared.mark.Mark.{Mark};
     ghost use Rattle.s10_history.specs.Settings.{Terms};
-    ghost use Rattle.std.specs.Prelude.{IfSome};
+    ghost use Rattle.std.specs.Prelude.{IfOk, IfSome, IsSome, take};
     ghost use Rattle.s10_history.specs.History.{ranges_of, is_closed, is_open_after};
-    ghost use Rattle.s10_history.specs.Issues.{issues_of};
+    ghost use Rattle.s10_history.specs.declared.issuance.Issuance.{Issuance};
+    ghost use Rattle.s10_history.specs.Issues.{issues_at, issues_of};
     ghost use Rattle.s10_book.specs.Rules.{IsLegal, MayFollow};
     ghost use Rattle.s10_ranges.specs.Mirror.{Mirrors, MirrorsAt};
+    ghost use Rattle.s10_ranges.specs.Moves.{AreMoves, IsMoveOf};
     ghost use Rattle.s10_ranges.specs.Room.{HasRoom};
 
     /// Creates an empty list of ranges.
@@ -139,57 +142,63 @@ impl Ranges {
         }
     }
 
-    // Sets the mark of the identifier's range to the serial after that of the identifier. Wrapping
-    // from the last serial to the first begins the later lap. Changes nothing if the identifier is
-    // in no range.
-    fn advance_mark(&mut self, id: &Id)
-        ensures ranges { self.new.ranges.items ≡ self.old.ranges.items }
-        ensures marks { (r : Range) (m : Mark)
-            → find (overlaps id.now.service id.now.country id.now.serial id.now.serial)
-            self.old.ranges.items ≡ Some r
-            → slice_get self.old.marks.items (r.num - 1) ≡ Some m → self.new.marks.items
-            ≡ set self.old.marks.items (r.num - 1) (mark_after r m.lap id.now.serial) }
-        ensures closed { self.new.closed ≡ self.old.closed }
+    // Returns how the issuance at index `place` of the call moves the mark of its range. `None` if
+    // the call has no such issuance, or no range has its identifier.
+    fn move_at(&self, entry: &Entry, place: usize) -> Option<MarkMove>
+        ensures { (h : List Entry) (t : Terms) (i : Issuance) → IsLegal h t
+            → MayFollow h t entry.now → Mirrors self.now h
+            → slice_get (issues_at (1 + length h) entry.now) place ≡ Some i
+            → IsSome result × IfSome result (IsMoveOf (ranges_of h)
+            (issues_of h ++ take place (issues_at (1 + length h) entry.now)) i.id) }
     {
-        let found = covering_in(
-            &self.ranges,
-            &self.by_serial,
-            id.service,
-            id.country,
-            id.serial,
-            id.serial,
-        );
-        let Some(range) = found else {
-            return;
-        };
-        let held = mark_in(&self.marks, range.num);
-        let Some(mark) = held else {
-            return;
-        };
-        let next = next_mark(&range, mark.lap, id.serial);
-        self.set_mark(range.num, next);
+        // A mark does not depend on the arrival of the issuance, so 0 will do.
+        let id = entry.issue(0, place)?.id;
+        let range = self.covering_range(id.service, id.country, id.serial, id.serial)?;
+        let mark = self.mark(range.num)?;
+        let lap = lap_at(&range, mark.lap, entry, place);
+        Some(MarkMove {
+            num: range.num,
+            lap,
+            mark: next_mark(&range, lap, id.serial),
+        })
     }
 
-    // Advances the mark of a range for each identifier that the call issued, in their order.
-    fn advance_marks(&mut self, entry: &Entry)
-        ensures marks { (h : List Entry) (t : Terms) → IsLegal h t → MayFollow h t entry.now
-            → MirrorsAt (ranges_of h) (issues_of h) self.old
-            → MirrorsAt (ranges_of h) (issues_of (h ++ entry.now ∷ [])) self.new }
+    /// Returns how the issuances of a call that may follow move the marks, in their order.
+    ///
+    /// # Errors
+    ///
+    /// `AllocError` if the memory cannot be allocated.
+    pub fn moves_of(&self, alloc: Global, entry: &Entry) -> Result<Vec<MarkMove>, AllocError>
+        ensures { (h : List Entry) (t : Terms) → IsLegal h t → MayFollow h t entry.now
+            → Mirrors self.now h → IfOk result (λ moves. AreMoves h entry.now moves.items) }
+    {
+        let mut moves = Vec::new(alloc);
+        for place in 0..entry.issued() {
+            if let Some(next) = self.move_at(entry, place) {
+                moves.push(next)?;
+            }
+        }
+        Ok(moves)
+    }
+
+    // Sets the marks that the moves give, in their order.
+    fn apply_moves(&mut self, moves: &[MarkMove])
+        ensures marks { (h : List Entry) (t : Terms) (e : Entry) → IsLegal h t → MayFollow h t e
+            → AreMoves h e moves.now → MirrorsAt (ranges_of h) (issues_of h) self.old
+            → MirrorsAt (ranges_of h) (issues_of (h ++ e ∷ [])) self.new }
         ensures closed { self.new.closed ≡ self.old.closed }
     {
-        for place in 0..entry.issued() {
-            // A mark does not depend on the arrival of the issuance, so 0 will do.
-            if let Some(issuance) = entry.issue(0, place) {
-                self.advance_mark(&issuance.id);
-            }
+        for next in moves {
+            self.set_mark(next.num, next.mark);
         }
     }
 
-    // Adds the range of a Done Grant. For any other call, advances a mark for each issuance.
-    fn follow_made(&mut self, entry: &Entry)
+    // Adds the range of a Done Grant. For any other call, applies its moves.
+    fn follow_made(&mut self, entry: &Entry, moves: &[MarkMove])
         requires room { HasRoom self.old }
         ensures made { (h : List Entry) (t : Terms) → IsLegal h t → MayFollow h t entry.now
-            → length h < 4294967295 → MirrorsAt (ranges_of h) (issues_of h) self.old
+            → length h < 4294967295 → AreMoves h entry.now moves.now
+            → MirrorsAt (ranges_of h) (issues_of h) self.old
             → MirrorsAt (ranges_of (h ++ entry.now ∷ [])) (issues_of (h ++ entry.now ∷ []))
             self.new }
         ensures closed { self.new.closed ≡ self.old.closed }
@@ -204,33 +213,36 @@ impl Ranges {
                     self.push_next(range, mark);
                 }
             }
-            _ => self.advance_marks(entry),
+            _ => self.apply_moves(moves),
         }
     }
 
-    /// Follows a kept call: adds the range of a Done Grant, advances the marks for each issuance,
-    /// and closes the range of a Done Withdraw.
+    /// Follows a kept call: adds the range of a Done Grant, moves the marks for its issuances, and
+    /// closes the range of a Done Withdraw.
     ///
-    /// Requires memory reserved by `reserve`. A granted range that lacks the next number, is empty
+    /// `moves` are those that `moves_of` returns for the call. Requires memory reserved by `reserve`. A granted range that lacks the next number, is empty
     /// or overlaps another is ignored: that happens only if the ranges are not those of a legal
     /// history that the call may follow.
-    pub fn follow(&mut self, entry: &Entry)
+    pub fn follow(&mut self, entry: &Entry, moves: &[MarkMove])
         requires room { HasRoom self.old }
         ensures { (h : List Entry) (t : Terms) → IsLegal h t → MayFollow h t entry.now
-            → length h < 4294967295 → Mirrors self.old h → Mirrors self.new (h ++ entry.now ∷ []) }
+            → length h < 4294967295 → AreMoves h entry.now moves.now → Mirrors self.old h
+            → Mirrors self.new (h ++ entry.now ∷ []) }
     {
-        self.follow_made(entry);
+        self.follow_made(entry, moves);
         self.closed.follow(entry);
     }
 
-    // Sets the mark of the range with the number `num`.
+    // Sets the mark of the range with the number `num`. Changes nothing if there is no such range.
     fn set_mark(&mut self, num: u32, mark: Mark)
-        requires from { 0 < num }
-        requires to { num ≤ length self.old.ranges.items }
         ensures ranges { self.new.ranges.items ≡ self.old.ranges.items }
-        ensures marks { self.new.marks.items ≡ set self.old.marks.items (num - 1) mark }
+        ensures marks { 0 < num → num ≤ length self.old.ranges.items
+            → self.new.marks.items ≡ set self.old.marks.items (num - 1) mark }
         ensures closed { self.new.closed ≡ self.old.closed }
     {
+        if num == 0 || num as usize > self.marks.len() {
+            return;
+        }
         self.marks[num as usize - 1] = mark;
     }
 

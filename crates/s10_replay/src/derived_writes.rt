@@ -1,12 +1,13 @@
 //! The writes of a call to the derived rows.
 
-ghost use Rattle.std.specs.Prelude.{◌≡◌, ℕ, ◌+◌, ◌≤◌, pos, true, false, List, [], ◌++◌, ◌∷◌, length};
+ghost use Rattle.std.specs.Prelude.{◌≡◌, ℕ, ◌+◌, pos, true, false, List, [], ◌++◌, ◌∷◌, length};
 ghost use Rattle.std.specs.Prelude.{filter, option_to_list, slice_get, All, Contains, Some, None};
 ghost use Rattle.std.specs.Prelude.{IfOk, IfErr, IsOk, IsSome};
 ghost use Rattle.s10_core.specs.declared.id.Id.{Id};
 ghost use Rattle.s10_wire.specs.declared.body.Body.TheVariants.{Void};
 ghost use Rattle.s10_wire.specs.declared.outcome.Outcome.TheVariants.{Granted, Voided};
 ghost use Rattle.s10_history.specs.declared.entry.Entry.{Entry};
+ghost use Rattle.s10_history.specs.declared.range.Range.{Range};
 ghost use Rattle.s10_history.specs.Settings.{Terms};
 ghost use Rattle.s10_book.specs.Rules.{IsLegal, MayFollow};
 ghost use Rattle.s10_history.specs.History.{ranges_of, lies_in};
@@ -21,18 +22,16 @@ ghost use Rattle.s10_rows.specs.Selected.{IsCall, is_within};
 ghost use Rattle.s10_rows.specs.RowWrites.{IssueWritesMake, MakesWrites, issues_before, write_of};
 
 use s10_core::Serial;
-use s10_history::{Entry, Issuance, Range};
+use s10_history::{Entry, Issuance};
 use s10_rows::{PriorIssue, RangeRow, RangeWrite, SerialRow, SerialWrite};
 use s10_wire::Outcome;
 
-// Returns the write of the mark after the range issued `serial`.
-fn mark_write(range: &Range, serial: Serial) -> RangeWrite
-    ensures { serial ≤ range.now.last
-        → result ≡ RangeWrite.Mark (pos range.now.num) (pos (serial_after range.now serial)) }
+// Returns the write of the mark of the range with the number `num`.
+fn mark_write(num: u32, mark: Serial) -> RangeWrite
+    ensures { result ≡ RangeWrite.Mark (pos num) (pos mark) }
 {
-    let mark = range.serial_after(serial, 1);
     RangeWrite::Mark {
-        num: i64::from(range.num),
+        num: i64::from(num),
         mark: i64::from(mark.value()),
     }
 }
@@ -50,26 +49,27 @@ fn issue_write(issued: PriorIssue, row: SerialRow) -> SerialWrite
 /// Returns the writes of one issuance of a call: the next mark of its range, and its row of
 /// `serials`.
 ///
-/// `issued` is `Never` only if neither the calls before nor the earlier issuances of this call
-/// issued the identifier.
+/// `num` is the number of its range, and `mark` the serial that the range gives next. `issued` is
+/// `Never` only if neither the calls before nor the earlier issuances of this call issued the
+/// identifier.
 pub fn issue_writes(
-    range: &Range,
+    num: u32,
+    mark: Serial,
     issued: PriorIssue,
     issuance: &Issuance,
 ) -> (RangeWrite, SerialWrite)
-    ensures { (h : List Entry) (t : Terms) (e : Entry) (place : ℕ) (ranges : List RangeWrite)
-        (serials : List SerialWrite) → IsLegal h t → MayFollow h t e → All IsCall h → IsCall e
+    ensures { (h : List Entry) (t : Terms) (e : Entry) (place : ℕ) (r : Range)
+        (ranges : List RangeWrite) (serials : List SerialWrite) → IsLegal h t → MayFollow h t e
+        → All IsCall h → IsCall e
         → slice_get (issues_at (1 + length h) e) place ≡ Some issuance.now
-        → Contains (ranges_of h) range.now → lies_in range.now issuance.now.id ≡ true
+        → Contains (ranges_of h) r → lies_in r issuance.now.id ≡ true
+        → num ≡ r.num → mark ≡ serial_after r issuance.now.id.serial
         → (issued ≡ PriorIssue.Never → is_issued (issues_before place h e) issuance.now.id ≡ false)
         → IssueWritesMake h e place ranges serials
         → IssueWritesMake h e (place + 1) (ranges ++ result.0 ∷ []) (serials ++ result.1 ∷ []) }
 {
     let row = SerialRow::of(issuance, false);
-    (
-        mark_write(range, issuance.id.serial),
-        issue_write(issued, row),
-    )
+    (mark_write(num, mark), issue_write(issued, row))
 }
 
 /// Brings two facts into scope. Before the first issuance of a call no writes are needed. The

@@ -55,13 +55,14 @@ pub(crate) fn numbered(rt: &impl Abort, num: u32) -> Option<Range> {
     Some(range(rt, num, *granted))
 }
 
-fn follow(rt: &impl Abort, ranges: &mut Ranges, entry: &Entry) {
+fn follow<R: Abort + AllocGlobal>(rt: &R, ranges: &mut Ranges, entry: &Entry) {
+    let moves = ranges.moves_of(rt.alloc(), entry).expect(rt, "moves");
     ranges.reserve().expect(rt, "room");
-    ranges.follow(entry);
+    ranges.follow(entry, &moves);
 }
 
 /// Lets the ranges follow a Grant of this range that was done.
-pub(crate) fn grant(rt: &impl Abort, ranges: &mut Ranges, range: &Range) {
+pub(crate) fn grant<R: Abort + AllocGlobal>(rt: &R, ranges: &mut Ranges, range: &Range) {
     let body = Body::Grant {
         holder: range.holder,
         service: range.service,
@@ -82,7 +83,7 @@ pub(crate) fn grant(rt: &impl Abort, ranges: &mut Ranges, range: &Range) {
 }
 
 /// Lets the ranges follow a Draw of RA GB that gave this serial.
-pub(crate) fn draw(rt: &impl Abort, ranges: &mut Ranges, value: u32) {
+pub(crate) fn draw<R: Abort + AllocGlobal>(rt: &R, ranges: &mut Ranges, value: u32) {
     let service = service(rt, *b"RA");
     let country = country(rt, *b"GB");
     let entry = Entry {
@@ -105,7 +106,12 @@ pub(crate) fn draw(rt: &impl Abort, ranges: &mut Ranges, value: u32) {
 }
 
 /// Lets the ranges follow a Withdraw of range `num` with this outcome.
-pub(crate) fn withdraw(rt: &impl Abort, ranges: &mut Ranges, num: u32, outcome: Outcome) {
+pub(crate) fn withdraw<R: Abort + AllocGlobal>(
+    rt: &R,
+    ranges: &mut Ranges,
+    num: u32,
+    outcome: Outcome,
+) {
     let entry = Entry {
         request: Request {
             customer: 0,

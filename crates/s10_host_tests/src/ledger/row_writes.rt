@@ -110,6 +110,7 @@ fn mark_advances_by_one_and_wraps_after_the_last(rt: HostRuntime) {
     let range = first_range();
     for (value, arrival, day, number, mark) in DRAWN {
         let issuance = issuance(&range, *value, *arrival, *day, *number);
+        let next = range.serial_after(issuance.id.serial, 1);
         let row = SerialRow {
             pair: RA_GB,
             serial: i64::from(*value),
@@ -124,8 +125,8 @@ fn mark_advances_by_one_and_wraps_after_the_last(rt: HostRuntime) {
             mark: *mark,
         };
         let found = (
-            issue_writes(&range, PriorIssue::Never, &issuance),
-            issue_writes(&range, PriorIssue::Before, &issuance),
+            issue_writes(1, next, PriorIssue::Never, &issuance),
+            issue_writes(1, next, PriorIssue::Before, &issuance),
         );
         let wanted = (
             (marked, SerialWrite::New(row)),

@@ -9,7 +9,7 @@ use Rattle.s10_index.proofs.WrittenLemmas.{writes_call}
 use Rattle.s10_index.proofs.call_writes.call_write.Goals as goal
 
 pub returns-in_default-clause-done : goal.returns-in_default-clause-done
-returns-in_default-clause-done c h t legal follows few indexes =
+returns-in_default-clause-done c h t legal follows few indexes moves =
     let e = c.args.entry.now in
     let fitting : IsTrue (fits e.request.body e.outcome) =
     rw (follows.right) (answer_fits h e.request.customer e.request.body e.day t.interval) in
@@ -18,12 +18,12 @@ returns-in_default-clause-done c h t legal follows few indexes =
     absurd (let e = wrong in cc)
 
 pub returns-in_err-made-clause-done : goal.returns-in_err-made-clause-done
-returns-in_err-made-clause-done c h t legal follows few indexes =
+returns-in_err-made-clause-done c h t legal follows few indexes moves =
     let p = err_from_is_err_and c.from_residual.result c.from_residual.ensures.1 in
-    rw (p.1, p.2) (c.in_err-made.ensures.done h t legal follows few indexes)
+    rw (p.1, p.2) (c.in_err-made.ensures.done h t legal follows few indexes moves)
 
 pub returns-clause-answer : goal.returns-clause-answer
-returns-clause-answer c h t legal follows calls indexes arrival =
+returns-clause-answer c h t legal follows calls indexes moves arrival =
     let e = c.args.entry.now in
     let replies : Replies c.encode_reply.result e.request e.outcome =
     rw (c.in-Some.ensures.parts.0, c.in-Some.ensures.parts.1) at c.encode_reply.ensures in
@@ -35,5 +35,6 @@ returns-clause-answer c h t legal follows calls indexes arrival =
     } in (
       call,
       writes_call h t _ arrival (reply_replies e.request e.outcome c.encode_reply.result
-          replies) (c.in_ok-made.ensures.answer h t legal follows calls call indexes arrival),
+          replies) (c.in_ok-made.ensures.answer h t legal follows calls call indexes moves
+          arrival),
     )

@@ -6,8 +6,8 @@ use Rattle.s10_ledger.proofs.pending.append_pending.Goals as goal
 
 pub returns-clause-written : goal.returns-clause-written
 returns-clause-written c = (
-  c.in_ok-write.write,
-  pushed c.push.result c.push.new.self.items c.args.pending.now.items c.in_ok-write.write
+  c.in_ok-write.field-0.write,
+  pushed c.push.result c.push.new.self.items c.args.pending.now.items c.in_ok-write.field-0.write
       (sym (c.if-is_err.ensures.value)) c.push.ensures.items,
   c.in_ok-write.ensures.entry,
   c.in_ok-write.ensures.writes,
@@ -21,17 +21,18 @@ returns-clause-few c = λ few. omega (
   arith,
   ap length (returns-clause-calls c),
   length-append c.args.index.now.entries.items (c.args.entry.now ∷ []),
-  ap length c.prepared_write.ensures.same_calls,
+  ap length c.prepare_call.ensures.same_calls,
   c.in_ok-write.ensures.few,
 )
 
 pub returns-clause-followed : goal.returns-clause-followed
 returns-clause-followed c = λ h t legal follows indexed. c.follow.ensures.followed h t legal follows
-    (c.prepared_write.ensures.same_index h indexed)
+    (rw c.deref.ensures.value (c.in_ok-write.ensures.moves h t legal follows indexed))
+    (c.prepare_call.ensures.same_index h indexed)
 
 pub returns-then-is_err-clause-left : goal.returns-then-is_err-clause-left
 returns-then-is_err-clause-left c = not_pushed c.push.result c.push.new.self.items
-    c.args.pending.now.items c.in_ok-write.write (sym c.if-is_err.ensures.value)
+    c.args.pending.now.items c.in_ok-write.field-0.write (sym c.if-is_err.ensures.value)
     c.push.ensures.items
 
 pub follow-requires-clause-few : goal.follow-requires-clause-few

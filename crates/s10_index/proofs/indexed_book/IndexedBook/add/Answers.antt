@@ -25,7 +25,8 @@ invariant_of-self-2 c =
     record {
       indexed = subst (Indexes c.follow.new.self) (sym grown)
           (c.follow.ensures.followed h t c.args.self.now.legal c.requires
-          (c.reserve.ensures.same h c.args.self.now.indexed));
+          (rw c.deref.ensures.value (c.in_ok-moves.ensures h t c.args.self.now.legal c.requires
+          (rw c.ranges-2.ensures c.args.self.now.indexed.ranges))) (c.reserve.ensures.same h c.args.self.now.indexed));
       legal = rw grown (IsLegal-push h t c.args.entry c.args.self.now.legal c.requires);
       no_store_fault = c.args.self.now.no_store_fault;
     }

@@ -1,19 +1,19 @@
 use Rattle.std.proofs.Common.{◌≡◌, rules, sym, ◌∙◌, true, false, Some}
 use Rattle.s10_history.specs.Issues.{issues_at, is_of}
-use Rattle.s10_index.proofs.Earlier.{issued_before, not_issued_yet}
-use Rattle.s10_index.proofs.issue_writes.is_issued_before.Goals as goal
-use Rattle.s10_index.proofs.issue_writes.is_issued_before.Goals.{in-Some+else-eq, in_default}
+use Rattle.s10_ranges.proofs.Earlier.{issued_before, not_issued_yet}
+use Rattle.s10_ranges.proofs.lap_at.is_issued_before.Goals as goal
+use Rattle.s10_ranges.proofs.lap_at.is_issued_before.Goals.{in-Some+else-eq, in_default}
 
 pub returns-then-eq : goal.returns-then-eq
 returns-then-eq c =
     let same : is_of c.args.id.now c.in-Some.issuance ≡ true = Prim.search rules in
-    sym (issued_before (issues_at c.args.arrival c.args.entry.now) c.args.place
+    sym (issued_before (issues_at 0 c.args.entry.now) c.args.place
     c.loop-earlier.earlier c.in-Some.issuance c.args.id.now (sym c.issue.ensures ∙ c.in-Some.is)
     c.loop-earlier-test.true same)
 
 pub loop-earlier-preserved : goal.loop-earlier-preserved
 loop-earlier-preserved c =
-    not_issued_yet (issues_at c.args.arrival c.args.entry.now) c.loop-earlier.earlier c.args.id.now
+    not_issued_yet (issues_at 0 c.args.entry.now) c.loop-earlier.earlier c.args.id.now
     c.loop-earlier.invariant (λ i there.
     let found : c.issue.result ≡ Some i = c.issue.ensures ∙ there in
     elim c.match-issue.branch [
