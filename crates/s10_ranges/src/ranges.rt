@@ -220,9 +220,10 @@ impl Ranges {
     /// Follows a kept call: adds the range of a Done Grant, moves the marks for its issuances, and
     /// closes the range of a Done Withdraw.
     ///
-    /// `moves` are those that `moves_of` returns for the call. Requires memory reserved by `reserve`. A granted range that lacks the next number, is empty
-    /// or overlaps another is ignored: that happens only if the ranges are not those of a legal
-    /// history that the call may follow.
+    /// `moves` are those that `moves_of` returns for the call. Requires memory reserved by
+    /// `reserve`. A granted range that lacks the next number, is empty or overlaps another is
+    /// ignored: that happens only if the ranges are not those of a legal history that the call may
+    /// follow.
     pub fn follow(&mut self, entry: &Entry, moves: &[MarkMove])
         requires room { HasRoom self.old }
         ensures { (h : List Entry) (t : Terms) → IsLegal h t → MayFollow h t entry.now
