@@ -41,6 +41,15 @@ def sources(names):
     return [path.read_text(encoding="utf-8").split("\n") for it in names for path in sorted((it / "src").rglob("*.rt"))]
 
 
+def files_in(part, ending):
+    """The files of one part of each crate: of `src`, `specs` or `proofs`."""
+    return [path for it in folders() for path in sorted((it / part).rglob("*" + ending))]
+
+
+def lines_in(part, ending):
+    return sum(path.read_text(encoding="utf-8").count("\n") for path in files_in(part, ending))
+
+
 def all_crates():
     return [it for it in CRATES.iterdir() if (it / "src").is_dir()]
 
@@ -109,6 +118,12 @@ def counts():
         "wrong-bodies": len(list(CRATES.glob("*/must-fail/*.edit"))),
         "tests": tests(),
         "public-functions": public_functions(),
+        "source-lines": lines_in("src", ".rt"),
+        "source-files": len(files_in("src", ".rt")),
+        "specs-lines": lines_in("specs", ".antt"),
+        "specs-files": len(files_in("specs", ".antt")),
+        "proofs-lines": lines_in("proofs", ".antt"),
+        "proofs-files": len(files_in("proofs", ".antt")),
         **theorem_counts(),
     }
 
