@@ -1,9 +1,9 @@
 //! The end of a job whose ledger was closed.
 
 use s10_book::BookFault;
-use s10_link::UdpLink;
 use s10_jobs::JobStatus;
 use s10_lines::WriteFault;
+use s10_link::UdpLink;
 use sqlite::{Alter, Connection};
 
 /// How a job on a ledger ended, with the connection of the ledger.
