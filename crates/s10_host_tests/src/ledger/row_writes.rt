@@ -110,7 +110,7 @@ fn mark_advances_by_one_and_wraps_after_the_last(rt: HostRuntime) {
     let range = first_range();
     for (value, arrival, day, number, mark) in DRAWN {
         let issuance = issuance(&range, *value, *arrival, *day, *number);
-        let next = range.serial_after(issuance.id.serial, 1);
+        let next = range.serial_after(serial(*value), 1);
         let row = SerialRow {
             pair: RA_GB,
             serial: i64::from(*value),
