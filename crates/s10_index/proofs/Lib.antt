@@ -5,8 +5,6 @@ pub mod Recording
 pub mod Inserting
 pub mod Reserving
 pub mod LastRows
-pub mod ReplayedBookLemmas
 pub mod IssueLemmas
 pub mod Voiding
 pub mod WrittenLemmas
-pub mod ReplayFaults

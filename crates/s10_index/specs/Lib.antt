@@ -5,4 +5,3 @@ pub mod Positions
 pub mod LastIssues
 pub mod CallIndex
 pub mod RowsFrom
-pub mod ReplayedBook

@@ -11,10 +11,10 @@ use std::marker::Model;
 
 /// Kept calls in order of arrival, in compact form.
 #[derive(Drop)]
-/// The calls, in order of arrival. A sheet is named by its index in `sheets`.
 pub struct CallLog {
-    /// The identifiers of each sheet, in order of arrival.
+    /// The calls, in order of arrival. A sheet is named by its index in `sheets`.
     rows: Vec<CompactCall>,
+    /// The identifiers of each sheet, in order of arrival.
     sheets: Vec<Ids>,
 }
 

@@ -1,6 +1,5 @@
 //! The calls of a ledger with an index, which answers the reads of the rules without a walk over
-//! the calls; the book in memory over it; what a call writes to the tables; and the check of stored
-//! rows.
+//! the calls; the book in memory over it; and what a call writes to the tables.
 #![tactic(auto)]
 
 mod call_index;
@@ -9,21 +8,15 @@ mod call_log;
 mod call_writes;
 mod compact_call;
 mod compact_outcome;
-mod comparing;
 mod id_key;
 mod indexed_book;
 mod issue_writes;
 mod last_issues;
 mod positions;
-mod replayed_book;
 mod row_writes;
 mod rows;
-mod stored_rows;
 
 pub use call_index::CallIndex;
 pub use call_log::CallLog;
 pub use call_writes::call_write;
-pub use comparing::check_tables;
 pub use indexed_book::IndexedBook;
-pub use replayed_book::ReplayedBook;
-pub use stored_rows::StoredRows;

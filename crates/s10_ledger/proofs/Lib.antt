@@ -11,3 +11,5 @@ pub mod ReadingLemmas
 pub mod OpeningLemmas
 pub mod RefusalLemmas
 pub mod FaultLemmas
+pub mod ReplayedBookLemmas
+pub mod ReplayFaults

@@ -9,11 +9,12 @@ use Rattle.sqlite.specs.State.{HasCleanDisk}
 use Rattle.sqlite.specs.Held.{Held, state}
 use Rattle.s10_history.specs.declared.entry.Entry.{Entry}
 use Rattle.s10_history.specs.History.{day_of}
+use Rattle.s10_history.specs.Settings.{Terms}
 use Rattle.s10_index.specs.declared.call_index.CallIndex.{CallIndex}
+use Rattle.s10_index.specs.declared.indexed_book.IndexedBook.{IndexedBook}
 use Rattle.s10_index.specs.CallIndex.{Indexes}
 use Rattle.s10_rows.specs.declared.open_fault.OpenFault.{OpenFault}
 use Rattle.s10_rows.specs.declared.open_fault.OpenFault.TheVariants.{Memory, Store}
-use Rattle.s10_rows.specs.declared.ledger_summary.LedgerSummary.{LedgerSummary}
 use Rattle.s10_rows.specs.Tables.{Tables, HaveSameRows, tables_of}
 use Rattle.s10_replay.specs.RightRows.{kept_of, entry_of}
 use Rattle.s10_replay.specs.CheckedTables.{IsConsistent}
@@ -69,35 +70,26 @@ pub as_it_was : (form : TableLayout) (old read new : Database) → IsOfTableLayo
 as_it_was Whole old read new declared was same closed = same refl ∙ was
 as_it_was Old old read new declared was same closed = absurd (four_lack old.schema declared closed)
 
--- What is true of the calls that were counted is true of those of the index.
-counted : (P : ℕ → ℕ → Type 0) (found : LedgerSummary) (index : CallIndex) (tables : Tables)
-    → IsConsistent tables found → Indexes index (kept_of tables.calls) → P found.len found.day
-    → P (length index.entries.items) (day_of index.entries.items)
-counted P found index tables whole indexed holds =
-    subst (λ d. P (length index.entries.items) d) (whole.day ∙ sym (ap day_of indexed.calls))
-    (subst (λ n. P n found.day) (whole.len
-    ∙ sym (ap length indexed.calls ∙ length-map tables.calls entry_of)) holds)
-
 -- What was found of the tables is true of the completed ones.
-module _ (form : TableLayout) (old read new : Database) (found : LedgerSummary) (index : CallIndex)
-    (it : IsFound form old found index) (was : read ≡ old) (whole : (tables : Tables)
+module _ (form : TableLayout) (old read new : Database) (book : IndexedBook)
+    (it : IsFound form old book) (was : read ≡ old) (whole : (tables : Tables)
     → HasTableLayout form read tables → HasTables new tables) where
   completed : HasTables new it.tables
   completed = whole it.tables (subst (λ (d : Database). HasTableLayout form d it.tables) (sym was)
       it.has)
 
   pub same_history : history_in new ≡ history_in old
-  same_history = history new it.tables found completed it.whole
-      ∙ sym (found_history form old it.tables found it.has it.whole)
+  same_history = history new it.tables book.settings completed it.whole
+      ∙ sym (found_history form old it.tables book.settings it.has it.whole)
 
-  pub completed_ledger : IsLedger new found.settings (length index.entries.items)
-      (day_of index.entries.items)
-  completed_ledger = counted (λ n d. IsLedger new found.settings n d) found index it.tables it.whole
-      it.indexed (whole_ledger new it.tables found completed it.whole)
+  pub completed_ledger : IsLedger new book.settings (length book.index.entries.items)
+      (day_of book.index.entries.items)
+  completed_ledger = subst (λ h. IsLedger new book.settings (length h) (day_of h)) (sym it.kept)
+      (whole_ledger new it.tables book.settings completed it.whole)
 
-  pub completed_index : Indexes index (history_in new)
-  completed_index = subst (λ (h : List Entry). Indexes index h)
-      (sym (history new it.tables found completed it.whole)) it.indexed
+  pub completed_index : Indexes book.index (history_in new)
+  completed_index = subst (λ (h : List Entry). Indexes book.index h)
+      (it.kept ∙ sym (history new it.tables book.settings completed it.whole)) book.indexed
 
 no_rows_left : {X : Type 0} (xs ys : List X) → HaveSameRows xs ys → ys ≡ [] → xs ≡ []
 no_rows_left [] ys same none = refl
@@ -105,42 +97,51 @@ no_rows_left (x ∷ xs) ys same none =
     absurd (omega (arith, same_length (x ∷ xs) ys same, ap length none))
 
 -- Tables of an earlier build whose rows are consistent are a ledger of that build.
-old_ledger : (db : Database) (tables : Tables) (found : LedgerSummary) → HasOldTables db tables
-    → IsConsistent tables found → IsOldLedger db found.settings found.len found.day
-old_ledger db tables found has whole =
+old_ledger : (db : Database) (tables : Tables) (t : Terms) → HasOldTables db tables
+    → IsConsistent tables t → IsOldLedger db t (length (kept_of tables.calls))
+    (day_of (kept_of tables.calls))
+old_ledger db tables t has whole =
     let kept : List Entry = kept_of tables.calls in
-    let is : history_in db ≡ kept = found_history Old db tables found has whole in
-    let stands : HasOldTables db (tables_of kept found.settings) = record {
+    let is : history_in db ≡ kept = found_history Old db tables t has whole in
+    let stands : HasOldTables db (tables_of kept t) = record {
       schema = has.schema;
       heads = subst (λ l. HaveSameRows (map shown_head l) (map head_columns (db.trees 0)))
           whole.head.row has.heads;
-      calls = rw (right_rows found.settings tables.calls whole.right) has.calls;
+      calls = rw (right_rows t tables.calls whole.right) has.calls;
       ranges = shown_again shown_range _ tables.ranges _ whole.made.ranges has.ranges;
       serials = shown_again shown_serial _ tables.serials _ whole.made.serials has.serials;
       numbered = has.numbered;
       closed = no_rows_left _ tables.closed whole.made.closed has.closed;
     } in
     record {
-      legal = rw is (right_legal found.settings tables.calls whole.right);
+      legal = rw is (right_legal t tables.calls whole.right);
       held = ∣ record {
         tables = rw is stands;
-        calls = rw is (right_calls found.settings tables.calls whole.right);
-        len_is = whole.len ∙ sym (ap length is ∙ length-map tables.calls entry_of);
-        day_is = whole.day ∙ sym (ap day_of is);
+        calls = rw is (right_calls t tables.calls whole.right);
+        len_is = sym (ap length is);
+        day_is = sym (ap day_of is);
       } ∣₁;
     }
 
 -- What was found is a ledger, of this build or of an earlier one.
-pub found_ledger : (form : TableLayout) (db : Database) (found : LedgerSummary) (index : CallIndex)
-    → IsFound form db found index → IsAnyLedger db found.settings (length index.entries.items)
-    (day_of index.entries.items)
-found_ledger form db found index it = counted (λ n d. IsAnyLedger db found.settings n d) found index
-    it.tables it.whole it.indexed (either form it.has)
+pub found_ledger : (form : TableLayout) (db : Database) (book : IndexedBook)
+    → IsFound form db book → IsAnyLedger db book.settings (length book.index.entries.items)
+    (day_of book.index.entries.items)
+found_ledger form db book it = subst (λ h. IsAnyLedger db book.settings (length h) (day_of h))
+    (sym it.kept) (any form it.has)
   where
-    either : (form : TableLayout) → HasTableLayout form db it.tables
-        → IsAnyLedger db found.settings found.len found.day
-    either Whole has = inl (whole_ledger db it.tables found has it.whole)
-    either Old has = inr (old_ledger db it.tables found has it.whole)
+    any : (form : TableLayout) → HasTableLayout form db it.tables
+        → IsAnyLedger db book.settings (length (kept_of it.tables.calls))
+        (day_of (kept_of it.tables.calls))
+    any Whole has = inl (whole_ledger db it.tables book.settings has it.whole)
+    any Old has = inr (old_ledger db it.tables book.settings has it.whole)
+
+-- What is true of the settings and the calls of a book is true of those that it hands out.
+pub handed_out : (P : Terms → List Entry → Type 0) (book : IndexedBook) (t : Terms)
+    (index : CallIndex) → t ≡ book.settings → Indexes index book.index.entries.items
+    → P book.settings book.index.entries.items → P t index.entries.items
+handed_out P book t index same is holds = subst (λ (u : Terms). P u index.entries.items) (sym same)
+    (subst (λ (h : List Entry). P book.settings h) (sym is.calls) holds)
 
 -- Lack of memory and a fault of the store are refusals of any database.
 pub refused_by_store : (db : Database) (fault : OpenFault) → (fault ≡ Memory) ⊎ (fault ≡ Store)

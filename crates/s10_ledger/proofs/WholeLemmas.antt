@@ -18,7 +18,6 @@ use Rattle.s10_rows.specs.declared.open_fault.OpenFault.{OpenFault}
 use Rattle.s10_rows.specs.declared.open_fault.OpenFault.TheVariants.{NotALedger}
 use Rattle.s10_rows.specs.declared.open_fault.OpenFault.TheVariants.{Schema as OtherSchema, Damaged}
 use Rattle.s10_rows.specs.declared.open_fault.OpenFault.TheVariants.{NotEmpty, Memory, Store}
-use Rattle.s10_rows.specs.declared.ledger_summary.LedgerSummary.{LedgerSummary}
 use Rattle.s10_rows.specs.CallRow.{StoredCall}
 use Rattle.s10_rows.specs.Replies.{reply_bytes}
 use Rattle.s10_rows.specs.Tables.{Tables, HaveSameRows, call_row, call_rows_from, call_rows}
@@ -102,17 +101,17 @@ shown_again shown xs ys vs same has =
     ∥∥₁_elim same ∥∥₁_prop
     (λ p. ∥∥₁_map has (λ q. IsPermutation-trans _ _ _ (IsPermutation-map shown xs ys p) q))
 
-module _ (db : Database) (tables : Tables) (found : LedgerSummary) (has : HasTables db tables)
-    (whole : IsConsistent tables found) where
+module _ (db : Database) (tables : Tables) (t : Terms) (has : HasTables db tables)
+    (whole : IsConsistent tables t) where
   abbrev pub kept : List Entry
   kept = kept_of tables.calls
 
-  stands : StandsFor db kept found.settings
+  stands : StandsFor db kept t
   stands = record {
     schema = has.schema;
     heads = subst (λ l. HaveSameRows (map shown_head l) (map head_columns (db.trees 0)))
         whole.head.row has.heads;
-    calls = rw (right_rows found.settings tables.calls whole.right) has.calls;
+    calls = rw (right_rows t tables.calls whole.right) has.calls;
     ranges = shown_again shown_range _ tables.ranges _ whole.made.ranges has.ranges;
     serials = shown_again shown_serial _ tables.serials _ whole.made.serials has.serials;
     numbered = has.numbered;
@@ -120,41 +119,33 @@ module _ (db : Database) (tables : Tables) (found : LedgerSummary) (has : HasTab
   }
 
   are_calls : All IsCall kept
-  are_calls = right_calls found.settings tables.calls whole.right
+  are_calls = right_calls t tables.calls whole.right
 
-  legal : IsLegal kept found.settings
-  legal = right_legal found.settings tables.calls whole.right
+  legal : IsLegal kept t
+  legal = right_legal t tables.calls whole.right
 
   pub history : history_in db ≡ kept
-  history = history_is db kept found.settings are_calls stands
+  history = history_is db kept t are_calls stands
 
   -- A database whose rows are consistent is a ledger.
-  pub whole_ledger : IsLedger db found.settings found.len found.day
+  pub whole_ledger : IsLedger db t (length kept) (day_of kept)
   whole_ledger = record {
     legal = rw history legal;
     held = ∣ record {
       tables = rw history stands;
       calls = rw history are_calls;
-      len_is = whole.len ∙ sym (ap length history ∙ length-map tables.calls entry_of);
-      day_is = whole.day ∙ sym (ap day_of history);
+      len_is = sym (ap length history);
+      day_is = sym (ap day_of history);
     } ∣₁;
   }
 
 -- The history is that of the rows, also in the tables of an earlier build.
-pub found_history : (form : TableLayout) (db : Database) (tables : Tables) (found : LedgerSummary)
-    → HasTableLayout form db tables → IsConsistent tables found
-    → history_in db ≡ kept_of tables.calls
-found_history Whole db tables found has whole = history db tables found has whole
-found_history Old db tables found has whole =
-    calls_history db (kept_of tables.calls) (right_calls found.settings tables.calls whole.right)
-    (rw (right_rows found.settings tables.calls whole.right) has.calls)
-
--- The history has no more calls than the settings allow.
-pub whole_few : (tables : Tables) (found : LedgerSummary) → IsConsistent tables found
-    → found.len ≤ MAX_LIMIT
-whole_few tables found whole =
-    let legal = right_legal found.settings tables.calls whole.right in
-    omega (arith, legal.few, whole.len, whole.head.in_limits, length-map tables.calls entry_of)
+pub found_history : (form : TableLayout) (db : Database) (tables : Tables) (t : Terms)
+    → HasTableLayout form db tables → IsConsistent tables t → history_in db ≡ kept_of tables.calls
+found_history Whole db tables t has whole = history db tables t has whole
+found_history Old db tables t has whole =
+    calls_history db (kept_of tables.calls) (right_calls t tables.calls whole.right)
+    (rw (right_rows t tables.calls whole.right) has.calls)
 
 -- A database is refused for what its rows are refused for.
 pub refused_for : (db : Database) (tables : Tables) → HasRows db tables → (fault : OpenFault)
@@ -174,17 +165,3 @@ refused_for db tables rows (Damaged k) refusal = record {
 refused_for db tables rows NotEmpty refusal = refusal
 refused_for db tables rows Memory refusal = tt
 refused_for db tables rows Store refusal = tt
-
--- Consistent rows with their index are what was found.
-pub found_both : {E : Type 0} (form : TableLayout) (db : Database) (tables : Tables)
-    → HasTableLayout form db tables → (r : Result (LedgerSummary × CallIndex) E)
-    → IfOk r (λ found. IsConsistent tables found.0)
-    → IfOk r (λ found. Indexes found.1 (kept_of tables.calls))
-    → IfOk r (λ found. IsFound form db found.0 found.1)
-found_both form db tables has (Ok found) whole indexed = record {
-  tables = tables;
-  has = has;
-  whole = whole;
-  indexed = indexed;
-}
-found_both form db tables has (Err e) whole indexed = tt

@@ -1,5 +1,5 @@
 -- Defines what an opening reads of a database.
-use Rattle.std.specs.Prelude.{◌≢◌, List, map, Result, IfOk, IfErr}
+use Rattle.std.specs.Prelude.{◌≡◌, ◌≢◌, List, map, Result, IfOk, IfErr}
 use Rattle.std.specs.List.{AllByRecursion}
 use Rattle.std.specs.Ordering.{int_cmp}
 use Rattle.std.specs.declared.cmp.Ordering.TheVariants as Ordering
@@ -12,17 +12,14 @@ use Rattle.s10_rows.specs.declared.open_fault.OpenFault.{OpenFault}
 use Rattle.s10_rows.specs.CallRow.{StoredCall}
 use Rattle.s10_rows.specs.Tables.{Tables, HaveSameRows}
 use Rattle.s10_replay.specs.RightRows.{kept_of}
-use Rattle.s10_rows.specs.declared.ledger_summary.LedgerSummary.{LedgerSummary}
 use Rattle.s10_replay.specs.CheckedTables.{IsRefusal, IsConsistent}
-use Rattle.s10_index.specs.declared.call_index.CallIndex.{CallIndex}
-use Rattle.s10_index.specs.CallIndex.{Indexes}
-use Rattle.s10_index.specs.declared.replayed_book.ReplayedBook.{ReplayedBook}
+use Rattle.s10_index.specs.declared.indexed_book.IndexedBook.{IndexedBook}
 use Rattle.s10_statements.specs.Shown.{shown_head, shown_call, shown_range, shown_serial}
 use Rattle.s10_statements.specs.Shown.{head_columns, call_columns, range_columns, serial_columns}
 use Rattle.s10_statements.specs.Shown.{HasIntegerRowid}
 use Rattle.s10_ledger.specs.declared.opening.table_layout.TableLayout.{TableLayout}
-use Rattle.s10_index.specs.declared.stored_rows.StoredRows.{StoredRows}
-use Rattle.s10_index.specs.ReplayedBook.{IsReplayedBook, AreDerivedRows}
+use Rattle.s10_ledger.specs.declared.opening.stored_rows.StoredRows.{StoredRows}
+use Rattle.s10_ledger.specs.Replaying.{IsReplayedBook}
 use Rattle.s10_ledger.specs.TableLayout.{HasTableLayout}
 
 -- The rows are those of head and of calls, the latter in order of arrival.
@@ -39,9 +36,15 @@ pub record HasDerivedRows (db : Database) (ranges : List RangeRow) (serials : Li
   pub serials_are : HaveSameRows (map shown_serial serials) (map serial_columns (db.trees 4))
   pub numbered : AllByRecursion HasIntegerRowid (db.trees 4)
 
+-- The stored rows are those of the three tables that are compared.
+pub record AreDerivedRows (tables : Tables) (rows : StoredRows) : Type 0 where
+  pub ranges : tables.ranges ≡ rows.ranges.items
+  pub serials : tables.serials ≡ rows.serials.items
+  pub closed : tables.closed ≡ rows.closed.items
+
 -- The database has been read: the calls were executed again or are refused, and the stored rows are
 -- those of the other tables.
-pub record AreRead (form : TableLayout) (db : Database) (made : Result ReplayedBook OpenFault)
+pub record AreRead (form : TableLayout) (db : Database) (made : Result IndexedBook OpenFault)
     (rows : StoredRows) : Type 0 where
   pub tables : Tables
   pub has : HasTableLayout form db tables
@@ -50,11 +53,10 @@ pub record AreRead (form : TableLayout) (db : Database) (made : Result ReplayedB
   pub ok : IfOk made (IsReplayedBook tables.heads tables.calls)
   pub err : IfErr made (IsRefusal tables)
 
--- An opening found a ledger: its rows are consistent with the summary, and the index holds its
+-- An opening found a ledger: its rows are consistent with the settings of the book, which keeps its
 -- calls.
-pub record IsFound (form : TableLayout) (db : Database) (opened : LedgerSummary)
-    (index : CallIndex) : Type 0 where
+pub record IsFound (form : TableLayout) (db : Database) (book : IndexedBook) : Type 0 where
   pub tables : Tables
   pub has : HasTableLayout form db tables
-  pub whole : IsConsistent tables opened
-  pub indexed : Indexes index (kept_of tables.calls)
+  pub whole : IsConsistent tables book.settings
+  pub kept : book.index.entries.items ≡ kept_of tables.calls

@@ -4,4 +4,5 @@ pub mod Found
 pub mod Pending
 pub mod Faults
 pub mod Refusals
+pub mod Replaying
 pub mod AllRows

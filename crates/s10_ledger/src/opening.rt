@@ -1,15 +1,18 @@
 //! Opens the ledger of a connection.
 //!
-//! An opening reads the tables (`reading`), executes the calls again and compares the other tables
-//! with what results (`comparing`), and completes the tables of an earlier build (`completing`).
+//! An opening reads the tables (`reading`), executes the calls again (`replaying`), compares the
+//! other tables with what results (`comparing`), and completes the tables of an earlier build
+//! (`completing`).
 
-ghost use Rattle.std.specs.Prelude.{◌≡◌, ◌≤◌, length, IfOk, IfErr, OnOk, OnErr, IsTrue};
+ghost use Rattle.std.specs.Prelude.{◌≡◌, length, IfOk, IfErr, OnOk, OnErr, IsTrue};
 ghost use Rattle.s10_history.specs.History.{day_of};
-ghost use Rattle.s10_history.specs.declared.settings.TheConstants.{MAX_LIMIT};
 ghost use Rattle.sqlite.specs.Held.{state};
 ghost use Rattle.sqlite.specs.State.{HasCleanDisk};
 ghost use Rattle.s10_schema.specs.Schema.{IsClosedSchema};
-ghost use Rattle.s10_statements.specs.ConnectionState.{IsQuiescent, WasSound};
+ghost use Rattle.s10_statements.specs.ConnectionState.{IsQuiescent, WasSound, AddsNoCrashState};
+ghost use Rattle.s10_statements.specs.Statements.{LeavesTables};
+ghost use Rattle.s10_ledger.specs.TableLayout.{IsOfTableLayout};
+ghost use Rattle.s10_ledger.specs.AllRows.{IsFound};
 ghost use Rattle.s10_ledger.specs.Ledger.{IsLedger, IsAnyLedger, IsIndexed, history_in};
 ghost use Rattle.s10_ledger.specs.Ledger.{MayComplete};
 ghost use Rattle.s10_ledger.specs.Refusals.{IsOpeningRefusal, HasSomeTableLayout};
@@ -17,32 +20,67 @@ ghost use Rattle.s10_ledger.specs.Refusals.{IsOpeningRefusal, HasSomeTableLayout
 mod comparing;
 mod completing;
 mod reading;
+mod replaying;
+mod stored_rows;
 mod table_layout;
 
-use crate::opening::comparing::replay_tables;
+use crate::faults::opening_fault;
+use crate::opening::comparing::compare_rows;
 use crate::opening::completing::complete;
-use crate::opening::table_layout::table_layout_of;
+use crate::opening::reading::read_tables;
+use crate::opening::table_layout::{TableLayout, table_layout_of};
 use crate::refused::Refused;
 use crate::sql_book::SqlBook;
-use s10_index::CallIndex;
-use s10_rows::{LedgerSummary, OpenFault};
+use s10_book::Book;
+use s10_index::IndexedBook;
+use s10_rows::OpenFault;
 use s10_statements::Observer;
 use sqlite::{Alter, Connection};
 use std::alloc::Global;
 
-// Returns the summary of the ledger in the tables, and the index of its calls. Completes the tables
-// of an earlier build.
+// Executes the calls of the tables again. Returns the book that results, if the other tables are
+// those of its calls.
+fn replay_tables<S: Alter, W: Observer>(
+    alloc: Global,
+    conn: &mut Connection<S>,
+    form: TableLayout,
+    observer: &mut W,
+) -> Result<IndexedBook, OpenFault>
+    requires settled { IsQuiescent S.Store conn.old }
+    requires form { IsOfTableLayout form (state S.Store conn.old).now.schema }
+    ensures spares { AddsNoCrashState S.Store conn.old conn.new }
+    ensures leaves { LeavesTables S.Store conn.old conn.new }
+    ensures opened { HasCleanDisk (state S.Store conn.new)
+        → OnOk result (IsTrue (state S.Store conn.new).is_open) }
+    ensures found { HasCleanDisk (state S.Store conn.new) → IsTrue (state S.Store conn.new).is_open
+        → IfOk result (IsFound form (state S.Store conn.old).now) }
+    ensures refused { HasCleanDisk (state S.Store conn.new)
+        → IsTrue (state S.Store conn.new).is_open
+        → IfErr result (IsOpeningRefusal (state S.Store conn.old).now) }
+{
+    let (book, rows) = match read_tables(alloc, conn, form, observer) {
+        Ok(read) => read,
+        Err(error) => {
+            observer.statement_failed(&error);
+            return Err(opening_fault(error));
+        }
+    };
+    let book = book?;
+    compare_rows(alloc, &book, rows)?;
+    Ok(book)
+}
+
+// Returns the book of the ledger in the tables. Completes the tables of an earlier build.
 fn ledger_in<S: Alter, W: Observer>(
     alloc: Global,
     conn: &mut Connection<S>,
     observer: &mut W,
-) -> Result<(LedgerSummary, CallIndex), OpenFault>
+) -> Result<IndexedBook, OpenFault>
     requires settled { IsQuiescent S.Store conn.old }
     ensures settled { IsQuiescent S.Store conn.new }
     ensures was { WasSound S.Store conn.old conn.new }
     ensures opened { HasCleanDisk (state S.Store conn.new)
         → OnOk result (IsTrue (state S.Store conn.new).is_open) }
-    ensures few { IfOk result (λ found. length found.1.entries.items ≤ MAX_LIMIT) }
     ensures same { HasCleanDisk (state S.Store conn.new) → IsTrue (state S.Store conn.new).is_open
         → IsClosedSchema (state S.Store conn.old).now.schema → (state S.Store conn.new).now
         ≡ (state S.Store conn.old).now }
@@ -53,12 +91,12 @@ fn ledger_in<S: Alter, W: Observer>(
         → OnOk result (history_in (state S.Store conn.new).now
         ≡ history_in (state S.Store conn.old).now) }
     ensures ledger { HasCleanDisk (state S.Store conn.new) → IsTrue (state S.Store conn.new).is_open
-        → IfOk result (λ found. IsLedger (state S.Store conn.new).now found.0.settings
-        (length found.1.entries.items) (day_of found.1.entries.items)) }
+        → IfOk result (λ book. IsLedger (state S.Store conn.new).now book.settings
+        (length book.index.entries.items) (day_of book.index.entries.items)) }
     ensures found { HasCleanDisk (state S.Store conn.new) → IsTrue (state S.Store conn.new).is_open
-        → IfOk result (λ found. IsAnyLedger (state S.Store conn.old).now found.0.settings
-        (length found.1.entries.items) (day_of found.1.entries.items)) }
-    ensures indexed { IfOk result (λ found. IsIndexed S.Store conn.new found.1) }
+        → IfOk result (λ book. IsAnyLedger (state S.Store conn.old).now book.settings
+        (length book.index.entries.items) (day_of book.index.entries.items)) }
+    ensures indexed { IfOk result (λ book. IsIndexed S.Store conn.new book.index) }
     ensures crash { MayComplete S.Store conn.old conn.new }
     ensures refused { HasCleanDisk (state S.Store conn.new)
         → IsTrue (state S.Store conn.new).is_open
@@ -69,9 +107,9 @@ fn ledger_in<S: Alter, W: Observer>(
     let Some(form) = table_layout_of(conn.schema()) else {
         return Err(OpenFault::NotALedger);
     };
-    let found = replay_tables(alloc, conn, form, observer)?;
+    let book = replay_tables(alloc, conn, form, observer)?;
     complete(conn, form, observer)?;
-    Ok(found)
+    Ok(book)
 }
 
 impl<S: Alter> SqlBook<S> {
@@ -152,7 +190,10 @@ impl<S: Alter> SqlBook<S> {
         // Brings into scope that a connection in no transaction has nothing to commit.
         prove!(conn.is_autocommit());
         match ledger_in(alloc, &mut conn, observer) {
-            Ok((opened, index)) => Ok(SqlBook::over(alloc, conn, opened.settings, index)),
+            Ok(book) => {
+                let settings = book.settings();
+                Ok(SqlBook::over(alloc, conn, settings, book.into_index()))
+            }
             Err(fault) => Err(Refused {
                 fault,
                 connection: conn,

@@ -2,12 +2,10 @@
 use Rattle.std.specs.Prelude.{◌≡◌, ◌≢◌, ℕ, zero, suc, ℤ, pos, List, [], ◌∷◌, length, take}
 use Rattle.std.specs.Prelude.{slice_get, Some, ⊤}
 use Rattle.s10_history.specs.Settings.{Terms, AreTerms}
-use Rattle.s10_history.specs.History.{day_of}
 use Rattle.s10_rows.specs.declared.head_row.HeadRow.{HeadRow}
 use Rattle.s10_rows.specs.declared.open_fault.OpenFault.{OpenFault}
 use Rattle.s10_rows.specs.declared.open_fault.OpenFault.TheVariants.{NotALedger, Schema, Damaged}
 use Rattle.s10_rows.specs.declared.open_fault.OpenFault.TheVariants.{NotEmpty, Memory, Store}
-use Rattle.s10_rows.specs.declared.ledger_summary.LedgerSummary.{LedgerSummary}
 use Rattle.s10_rows.specs.CallRow.{StoredCall}
 use Rattle.s10_rows.specs.Tables.{Tables, HaveSameRows, head_row, range_rows, serial_rows}
 use Rattle.s10_rows.specs.Tables.{closed_rows}
@@ -24,13 +22,11 @@ pub record AreDerived (tables : Tables) : Type 0 where
   pub serials : HaveSameRows (serial_rows (kept_of tables.calls)) tables.serials
   pub closed : HaveSameRows (closed_rows (kept_of tables.calls)) tables.closed
 
--- The rows, with those of calls in order of arrival, are a ledger's, and the summary is theirs.
-pub record IsConsistent (tables : Tables) (found : LedgerSummary) : Type 0 where
-  pub head : IsHead tables.heads (pos 1) found.settings
-  pub right : AreRight found.settings tables.calls
+-- The rows, with those of calls in order of arrival, are those of a ledger with these settings.
+pub record IsConsistent (tables : Tables) (t : Terms) : Type 0 where
+  pub head : IsHead tables.heads (pos 1) t
+  pub right : AreRight t tables.calls
   pub made : AreDerived tables
-  pub len : found.len ≡ length tables.calls
-  pub day : found.day ≡ day_of (kept_of tables.calls)
 
 -- Row k, from 0, is the first that is not right.
 pub record IsFirstWrong (t : Terms) (calls : List StoredCall) (k : ℕ) : Type 0 where

@@ -2,9 +2,19 @@
 
 use s10_history::Settings;
 use s10_ledger::{ClosedBook, SqlBook};
-use s10_rows::LedgerSummary;
 use sqlite::{Alter, Connection, MemStore};
 use std::process::Abort;
+
+/// What an opening found of a ledger.
+#[derive(Clone, Copy, Debug, PartialEq, Eq)]
+pub(crate) struct LedgerSummary {
+    /// The settings, from `head`.
+    pub settings: Settings,
+    /// The number of kept calls.
+    pub len: u32,
+    /// The day of the last kept call, 0 if there is none.
+    pub day: u32,
+}
 
 /// Returns settings with an interval of 30 days and this limit, and aborts if it is out of range.
 pub(crate) fn settings<R: Abort>(rt: &R, limit: u32) -> Settings {

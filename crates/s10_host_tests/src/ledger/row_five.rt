@@ -1,11 +1,10 @@
 //! A script of datagrams that a server handles in one run over a ledger, which is then reopened.
 
-use crate::ledger::calls::{closed, ledger, settings, whole};
+use crate::ledger::calls::{LedgerSummary, closed, ledger, settings, whole};
 use crate::ledger::sheets::first_wrong_step;
 use crate::ledger::tables::found;
 use s10_ends::Server;
 use s10_ledger::OpenFault;
-use s10_rows::LedgerSummary;
 use s10_test_help::datagrams;
 use s10_test_help::deliveries::{DRAW, Delivered, GRANT, Want};
 use s10_test_help::expect::same;

@@ -1,9 +1,9 @@
 //! The rows that calls leave in the tables.
 
 use crate::ledger::books::tables_after;
+use crate::ledger::calls::LedgerSummary;
 use crate::ledger::tables::{found, numbers, run_batches};
 use s10_ledger::OpenFault;
-use s10_rows::LedgerSummary;
 use s10_test_help::answered::Answered::{Closed, Granted, NoSuchRange, NotThePost, Withdrawn};
 use s10_test_help::asked::Asked::{Grant, Withdraw};
 use s10_test_help::expect::same;

@@ -1,9 +1,8 @@
 //! Databases created by statements, and what an opening finds in them.
 
-use crate::ledger::calls::closed;
+use crate::ledger::calls::{LedgerSummary, closed};
 use s10_book::Book;
 use s10_ledger::{NoObserver, OpenFault, Refused, SqlBook};
-use s10_rows::LedgerSummary;
 use s10_test_help::expect::same;
 use sqlite::{Alter, Connection, Error, MemStore};
 use std::alloc::Global;

@@ -1,51 +1,81 @@
-//! Executes the calls of the tables again, and compares the other tables with what results.
+//! Compares the rows of a ledger with those of its calls.
 
-ghost use Rattle.std.specs.Prelude.{◌≤◌, length, IfOk, IfErr, OnOk, IsTrue};
-ghost use Rattle.s10_history.specs.declared.settings.TheConstants.{MAX_LIMIT};
-ghost use Rattle.sqlite.specs.Held.{state};
-ghost use Rattle.sqlite.specs.State.{HasCleanDisk};
-ghost use Rattle.s10_statements.specs.ConnectionState.{IsQuiescent, AddsNoCrashState};
-ghost use Rattle.s10_statements.specs.Statements.{LeavesTables};
-ghost use Rattle.s10_ledger.specs.TableLayout.{IsOfTableLayout};
-ghost use Rattle.s10_ledger.specs.AllRows.{IsFound};
-ghost use Rattle.s10_ledger.specs.Refusals.{IsOpeningRefusal};
+ghost use Rattle.std.specs.Prelude.{◌≡◌, ◌↔◌, ◌⊎◌, pos, All, IfOk, IfErr, OnOk, IsTrue};
+ghost use Rattle.s10_history.specs.Settings.{Terms};
+ghost use Rattle.s10_rows.specs.Tables.{Tables, HaveSameRows, range_rows, serial_rows, closed_rows};
+ghost use Rattle.s10_replay.specs.RightRows.{AreRight, kept_of};
+ghost use Rattle.s10_replay.specs.CheckedTables.{AreDerived, IsHead, IsRefusal};
+ghost use Rattle.s10_rows.specs.Selected.{IsCall};
+ghost use Rattle.s10_ledger.specs.AllRows.{AreDerivedRows};
 
-use crate::faults::opening_fault;
-use crate::opening::reading::read_tables;
-use crate::opening::table_layout::TableLayout;
-use s10_index::{CallIndex, check_tables};
-use s10_rows::{LedgerSummary, OpenFault};
-use s10_statements::Observer;
-use sqlite::{Alter, Connection};
+use crate::opening::stored_rows::StoredRows;
+use s10_index::IndexedBook;
+use s10_replay::{same_closed, same_ranges, same_serials};
+use s10_rows::{ClosedRow, OpenFault, RangeRow, SerialRow};
 use std::alloc::Global;
 
-// Returns the summary of the ledger in the tables, and the index of its calls.
-pub(crate) fn replay_tables<S: Alter, W: Observer>(
-    alloc: Global,
-    conn: &mut Connection<S>,
-    form: TableLayout,
-    observer: &mut W,
-) -> Result<(LedgerSummary, CallIndex), OpenFault>
-    requires settled { IsQuiescent S.Store conn.old }
-    requires form { IsOfTableLayout form (state S.Store conn.old).now.schema }
-    ensures spares { AddsNoCrashState S.Store conn.old conn.new }
-    ensures leaves { LeavesTables S.Store conn.old conn.new }
-    ensures opened { HasCleanDisk (state S.Store conn.new)
-        → OnOk result (IsTrue (state S.Store conn.new).is_open) }
-    ensures few { IfOk result (λ found. length found.1.entries.items ≤ MAX_LIMIT) }
-    ensures found { HasCleanDisk (state S.Store conn.new) → IsTrue (state S.Store conn.new).is_open
-        → IfOk result (λ found. IsFound form (state S.Store conn.old).now found.0 found.1) }
-    ensures refused { HasCleanDisk (state S.Store conn.new)
-        → IsTrue (state S.Store conn.new).is_open
-        → IfErr result (IsOpeningRefusal (state S.Store conn.old).now) }
+// Returns whether these are the rows of `ranges` of the book's history.
+fn ranges_match(alloc: Global, book: &IndexedBook, rows: Vec<RangeRow>) -> Result<bool, OpenFault>
+    ensures err { (tables : Tables) → IfErr result (IsRefusal tables) }
+    ensures memory { IfErr result (λ f. f ≡ OpenFault.Memory) }
+    ensures answer { IfOk result (λ b. IsTrue b
+        ↔ HaveSameRows (range_rows book.now.index.entries.items) rows.items) }
 {
-    let (made, rows) = match read_tables(alloc, conn, form, observer) {
-        Ok(rows) => rows,
-        Err(error) => {
-            observer.statement_failed(&error);
-            return Err(opening_fault(error));
-        }
+    let Ok(made) = book.range_rows(alloc) else {
+        return Err(OpenFault::Memory);
     };
-    let made = made?;
-    check_tables(alloc, made, rows)
+    Ok(same_ranges(&made, rows))
+}
+
+// Returns whether these are the rows of `serials` of the book's history.
+fn serials_match(alloc: Global, book: &IndexedBook, rows: Vec<SerialRow>) -> Result<bool, OpenFault>
+    ensures err { (tables : Tables) → IfErr result (IsRefusal tables) }
+    ensures memory { IfErr result (λ f. f ≡ OpenFault.Memory) }
+    ensures answer { All IsCall book.now.index.entries.items
+        → IfOk result (λ b. IsTrue b ↔ HaveSameRows (serial_rows book.now.index.entries.items)
+        rows.items) }
+{
+    let Ok(made) = book.serial_rows(alloc) else {
+        return Err(OpenFault::Memory);
+    };
+    Ok(same_serials(made, rows))
+}
+
+// Returns whether these are the rows of `closed` of the book's history.
+fn closed_match(alloc: Global, book: &IndexedBook, rows: Vec<ClosedRow>) -> Result<bool, OpenFault>
+    ensures err { (tables : Tables) → IfErr result (IsRefusal tables) }
+    ensures memory { IfErr result (λ f. f ≡ OpenFault.Memory) }
+    ensures answer { IfOk result (λ b. IsTrue b
+        ↔ HaveSameRows (closed_rows book.now.index.entries.items) rows.items) }
+{
+    let Ok(made) = book.closed_rows(alloc) else {
+        return Err(OpenFault::Memory);
+    };
+    Ok(same_closed(&made, rows))
+}
+
+// Compares stored rows with the derived rows of the book's calls. `Damaged(0)` if a row differs, is
+// missing or is extra, `Memory` if out of memory.
+pub(crate) fn compare_rows(
+    alloc: Global,
+    book: &IndexedBook,
+    rows: StoredRows,
+) -> Result<(), OpenFault>
+    ensures ok { (tables : Tables) (t : Terms) → AreDerivedRows tables rows
+        → AreRight t tables.calls → book.now.index.entries.items ≡ kept_of tables.calls
+        → OnOk result (AreDerived tables) }
+    ensures err { (tables : Tables) (t : Terms) → AreDerivedRows tables rows
+        → IsHead tables.heads (pos 1) t → AreRight t tables.calls → book.now.index.entries.items
+        ≡ kept_of tables.calls
+        → IfErr result (IsRefusal tables) }
+    ensures fault { IfErr result (λ f. (f ≡ OpenFault.Damaged 0) ⊎ (f ≡ OpenFault.Memory)) }
+{
+    let ranges = ranges_match(alloc, book, rows.ranges)?;
+    let serials = serials_match(alloc, book, rows.serials)?;
+    let closed = closed_match(alloc, book, rows.closed)?;
+    if ranges && serials && closed {
+        Ok(())
+    } else {
+        Err(OpenFault::Damaged(0))
+    }
 }

@@ -1,20 +1,19 @@
 //! Reads the tables of a ledger. The rows of `calls` are executed again, and dropped before the
 //! derived rows are read.
 
-ghost use Rattle.std.specs.Prelude.{◌≡◌, List, IfOk, OnOk, IsTrue};
+ghost use Rattle.std.specs.Prelude.{◌≡◌, IfOk, OnOk, IsTrue};
 ghost use Rattle.sqlite.specs.Held.{state};
 ghost use Rattle.sqlite.specs.State.{HasCleanDisk};
-ghost use Rattle.s10_rows.specs.declared.head_row.HeadRow.{HeadRow};
-ghost use Rattle.s10_rows.specs.CallRow.{StoredCall};
 ghost use Rattle.s10_schema.specs.Schema.{IsLedgerSchema};
 ghost use Rattle.s10_statements.specs.ConnectionState.{IsQuiescent, AddsNoCrashState};
 ghost use Rattle.s10_statements.specs.Statements.{LeavesTables};
 ghost use Rattle.s10_ledger.specs.TableLayout.{IsOfTableLayout, AreClosed};
-ghost use Rattle.s10_index.specs.ReplayedBook.{IsReplayedBook};
 ghost use Rattle.s10_ledger.specs.AllRows.{HasCallRows, HasDerivedRows, AreRead};
 
+use crate::opening::replaying::replayed_book;
+use crate::opening::stored_rows::StoredRows;
 use crate::opening::table_layout::TableLayout;
-use s10_index::{ReplayedBook, StoredRows};
+use s10_index::IndexedBook;
 use s10_rows::{CallRow, ClosedRow, HeadRow, OpenFault, RangeRow, SerialRow};
 use s10_statements::{Observer, all_calls, all_closed, all_heads, all_ranges, all_serials};
 use sqlite::{Alter, Connection, Error};
@@ -79,13 +78,14 @@ fn read_derived_rows<S: Alter, W: Observer>(
     Ok((ranges, serials))
 }
 
-// Executes the stored calls again. Returns what resulted, and the stored rows to compare with it.
+// Executes the stored calls again. Returns the book that results, and the stored rows to compare
+// with it.
 pub(crate) fn read_tables<S: Alter, W: Observer>(
     alloc: Global,
     conn: &mut Connection<S>,
     form: TableLayout,
     observer: &mut W,
-) -> Result<(Result<ReplayedBook, OpenFault>, StoredRows), Error>
+) -> Result<(Result<IndexedBook, OpenFault>, StoredRows), Error>
     requires form { IsOfTableLayout form (state S.Store conn.old).now.schema }
     ensures spares { IsQuiescent S.Store conn.old → AddsNoCrashState S.Store conn.old conn.new }
     ensures leaves { LeavesTables S.Store conn.old conn.new }
@@ -94,17 +94,15 @@ pub(crate) fn read_tables<S: Alter, W: Observer>(
     ensures rows { HasCleanDisk (state S.Store conn.new) → IsTrue (state S.Store conn.new).is_open
         → IsQuiescent S.Store conn.old
         → IfOk result (λ rows. AreRead form (state S.Store conn.old).now rows.0 rows.1) }
-    ensures replayed { IfOk result (λ rows. IfOk rows.0 (λ made. (heads : List HeadRow)
-        × ((calls : List StoredCall) × IsReplayedBook heads calls made))) }
 {
     let closed = closed_rows(alloc, conn, form)?;
     let (heads, calls) = read_call_rows(alloc, conn, observer)?;
-    let made = ReplayedBook::of(alloc, heads, calls);
+    let book = replayed_book(alloc, heads, calls);
     let (ranges, serials) = read_derived_rows(alloc, conn, observer)?;
     let rows = StoredRows {
         ranges,
         serials,
         closed,
     };
-    Ok((made, rows))
+    Ok((book, rows))
 }

@@ -42,8 +42,8 @@ returns-clause-history g c clean opened =
     let sound = c.complete.ensures.was clean in
     same_history c.in-Some.form (state g.S.Store c.args.conn.now).now
     (state g.S.Store c.replay_tables.new.conn).now (state g.S.Store c.complete.new.conn).now
-    c.in_ok-found.found.0 c.in_ok-found.found.1
-    (c.in_ok-found.ensures.found sound.0 (sound.1 opened)) was
+    c.in_ok-book.book
+    (c.in_ok-book.ensures.found sound.0 (sound.1 opened)) was
     (c.in_ok-complete.ensures.whole clean)
 
 pub returns-clause-ledger : goal.returns-clause-ledger
@@ -56,15 +56,15 @@ returns-clause-ledger g c clean opened =
     let sound = c.complete.ensures.was clean in
     completed_ledger c.in-Some.form (state g.S.Store c.args.conn.now).now
     (state g.S.Store c.replay_tables.new.conn).now (state g.S.Store c.complete.new.conn).now
-    c.in_ok-found.found.0 c.in_ok-found.found.1
-    (c.in_ok-found.ensures.found sound.0 (sound.1 opened)) was
+    c.in_ok-book.book
+    (c.in_ok-book.ensures.found sound.0 (sound.1 opened)) was
     (c.in_ok-complete.ensures.whole clean)
 
 pub returns-clause-found : goal.returns-clause-found
 returns-clause-found g c clean opened =
     let sound = c.complete.ensures.was clean in
-    found_ledger c.in-Some.form (state g.S.Store c.args.conn.now).now c.in_ok-found.found.0
-    c.in_ok-found.found.1 (c.in_ok-found.ensures.found sound.0 (sound.1 opened))
+    found_ledger c.in-Some.form (state g.S.Store c.args.conn.now).now c.in_ok-book.book
+    (c.in_ok-book.ensures.found sound.0 (sound.1 opened))
 
 pub returns-clause-indexed : goal.returns-clause-indexed
 returns-clause-indexed g c clean opened =
@@ -76,26 +76,26 @@ returns-clause-indexed g c clean opened =
     let sound = c.complete.ensures.was clean in
     completed_index c.in-Some.form (state g.S.Store c.args.conn.now).now
     (state g.S.Store c.replay_tables.new.conn).now (state g.S.Store c.complete.new.conn).now
-    c.in_ok-found.found.0 c.in_ok-found.found.1
-    (c.in_ok-found.ensures.found sound.0 (sound.1 opened)) was
+    c.in_ok-book.book
+    (c.in_ok-book.ensures.found sound.0 (sound.1 opened)) was
     (c.in_ok-complete.ensures.whole clean)
 
-pub returns-in_err-found-clause-same : goal.returns-in_err-found-clause-same
-returns-in_err-found-clause-same g c clean opened closed = c.replay_tables.ensures.leaves.now clean
+pub returns-in_err-book-clause-same : goal.returns-in_err-book-clause-same
+returns-in_err-book-clause-same g c clean opened closed = c.replay_tables.ensures.leaves.now clean
     opened c.requires.settled closed.ledger
 
-pub returns-in_err-found-clause-kept : goal.returns-in_err-found-clause-kept
-returns-in_err-found-clause-kept g c clean opened =
+pub returns-in_err-book-clause-kept : goal.returns-in_err-book-clause-kept
+returns-in_err-book-clause-kept g c clean opened =
     let declared = subst (λ (s : Schema). IsOfTableLayout c.in-Some.form s) c.schema.ensures.value
     c.in-Some.ensures.some in
     let p = err_from_is_err_and c.from_residual.result c.from_residual.ensures.1 in
     rw p.1 (c.replay_tables.ensures.leaves.now clean opened c.requires.settled
     (form_ledger c.in-Some.form (state g.S.Store c.args.conn.now).now.schema declared))
 
-pub returns-in_err-found-clause-refused : goal.returns-in_err-found-clause-refused
-returns-in_err-found-clause-refused g c clean opened =
+pub returns-in_err-book-clause-refused : goal.returns-in_err-book-clause-refused
+returns-in_err-book-clause-refused g c clean opened =
     let p = err_from_is_err_and c.from_residual.result c.from_residual.ensures.1 in
-    rw (p.1, p.2) (c.in_err-found.ensures.refused clean opened)
+    rw (p.1, p.2) (c.in_err-book.ensures.refused clean opened)
 
 pub returns-in_err-complete-clause-was : goal.returns-in_err-complete-clause-was
 returns-in_err-complete-clause-was g c =
@@ -147,9 +147,6 @@ returns-in_default-clause-was g c = λ clean. (clean, λ opened. opened)
 pub returns-in_default-clause-opened : goal.returns-in_default-clause-opened
 returns-in_default-clause-opened g c = λ clean. tt
 
-pub returns-in_default-clause-few : goal.returns-in_default-clause-few
-returns-in_default-clause-few g c = tt
-
 pub returns-in_default-clause-same : goal.returns-in_default-clause-same
 returns-in_default-clause-same g c = λ clean opened closed. refl
 
@@ -171,41 +168,36 @@ returns-in_default-clause-indexed g c = tt
 pub replay_tables-requires-clause-settled : goal.replay_tables-requires-clause-settled
 replay_tables-requires-clause-settled g c = c.requires.settled
 
-pub returns-in_err-found-clause-settled : goal.returns-in_err-found-clause-settled
-returns-in_err-found-clause-settled g c = c.replay_tables.ensures.leaves.settled c.requires.settled
+pub returns-in_err-book-clause-settled : goal.returns-in_err-book-clause-settled
+returns-in_err-book-clause-settled g c = c.replay_tables.ensures.leaves.settled c.requires.settled
 
-pub returns-in_err-found-clause-was : goal.returns-in_err-found-clause-was
-returns-in_err-found-clause-was g c = sound_before g.S.Store c.args.conn.now
+pub returns-in_err-book-clause-was : goal.returns-in_err-book-clause-was
+returns-in_err-book-clause-was g c = sound_before g.S.Store c.args.conn.now
     c.replay_tables.new.conn c.replay_tables.ensures.leaves.clean
     c.replay_tables.ensures.leaves.was_open
 
-pub returns-in_err-found-clause-opened : goal.returns-in_err-found-clause-opened
-returns-in_err-found-clause-opened g c =
+pub returns-in_err-book-clause-opened : goal.returns-in_err-book-clause-opened
+returns-in_err-book-clause-opened g c =
     let p = err_from_is_err_and c.from_residual.result c.from_residual.ensures.1 in
     rw p.1 (λ clean. tt)
 
-pub returns-in_err-found-clause-few : goal.returns-in_err-found-clause-few
-returns-in_err-found-clause-few g c =
-    let p = err_from_is_err_and c.from_residual.result c.from_residual.ensures.1 in
-    rw p.1 tt
-
-pub returns-in_err-found-clause-history : goal.returns-in_err-found-clause-history
-returns-in_err-found-clause-history g c =
+pub returns-in_err-book-clause-history : goal.returns-in_err-book-clause-history
+returns-in_err-book-clause-history g c =
     let p = err_from_is_err_and c.from_residual.result c.from_residual.ensures.1 in
     rw p.1 (λ clean opened. tt)
 
-pub returns-in_err-found-clause-ledger : goal.returns-in_err-found-clause-ledger
-returns-in_err-found-clause-ledger g c =
+pub returns-in_err-book-clause-ledger : goal.returns-in_err-book-clause-ledger
+returns-in_err-book-clause-ledger g c =
     let p = err_from_is_err_and c.from_residual.result c.from_residual.ensures.1 in
     rw p.1 (λ clean opened. tt)
 
-pub returns-in_err-found-clause-found : goal.returns-in_err-found-clause-found
-returns-in_err-found-clause-found g c =
+pub returns-in_err-book-clause-found : goal.returns-in_err-book-clause-found
+returns-in_err-book-clause-found g c =
     let p = err_from_is_err_and c.from_residual.result c.from_residual.ensures.1 in
     rw p.1 (λ clean opened. tt)
 
-pub returns-in_err-found-clause-indexed : goal.returns-in_err-found-clause-indexed
-returns-in_err-found-clause-indexed g c =
+pub returns-in_err-book-clause-indexed : goal.returns-in_err-book-clause-indexed
+returns-in_err-book-clause-indexed g c =
     let p = err_from_is_err_and c.from_residual.result c.from_residual.ensures.1 in
     rw p.1 tt
 
@@ -217,12 +209,6 @@ returns-in_err-complete-clause-opened g c =
     let p = err_from_is_err_and c.from_residual-in_err-complete.result
     c.from_residual-in_err-complete.ensures.1 in
     rw p.1 (λ clean. tt)
-
-pub returns-in_err-complete-clause-few : goal.returns-in_err-complete-clause-few
-returns-in_err-complete-clause-few g c =
-    let p = err_from_is_err_and c.from_residual-in_err-complete.result
-    c.from_residual-in_err-complete.ensures.1 in
-    rw p.1 tt
 
 pub returns-in_err-complete-clause-history : goal.returns-in_err-complete-clause-history
 returns-in_err-complete-clause-history g c =
@@ -253,10 +239,7 @@ returns-clause-settled g c = c.complete.ensures.settled
 
 pub returns-clause-opened : goal.returns-clause-opened
 returns-clause-opened g c = λ clean. c.in_ok-complete.ensures.opened clean
-    (c.in_ok-found.ensures.opened (c.complete.ensures.was clean).0)
-
-pub returns-clause-few : goal.returns-clause-few
-returns-clause-few g c = c.in_ok-found.ensures.few
+    (c.in_ok-book.ensures.opened (c.complete.ensures.was clean).0)
 
 pub returns-clause-kept : goal.returns-clause-kept
 returns-clause-kept g c = λ clean opened. tt
@@ -267,8 +250,8 @@ returns-clause-refused g c = λ clean opened. tt
 pub returns-in_default-clause-crash : goal.returns-in_default-clause-crash
 returns-in_default-clause-crash g c = λ clean db left. inl left
 
-pub returns-in_err-found-clause-crash : goal.returns-in_err-found-clause-crash
-returns-in_err-found-clause-crash g c = λ clean db left.
+pub returns-in_err-book-clause-crash : goal.returns-in_err-book-clause-crash
+returns-in_err-book-clause-crash g c = λ clean db left.
     let declared = subst (λ (s : Schema). IsOfTableLayout c.in-Some.form s) c.schema.ensures.value
     c.in-Some.ensures.some in
     inl (c.replay_tables.ensures.spares clean (form_ledger c.in-Some.form
@@ -293,8 +276,8 @@ returns-clause-crash g c =
 pub returns-in_default-clause-no_tables : goal.returns-in_default-clause-no_tables
 returns-in_default-clause-no_tables g c = λ none. refl
 
-pub returns-in_err-found-clause-no_tables : goal.returns-in_err-found-clause-no_tables
-returns-in_err-found-clause-no_tables g c = λ none. absurd (none (
+pub returns-in_err-book-clause-no_tables : goal.returns-in_err-book-clause-no_tables
+returns-in_err-book-clause-no_tables g c = λ none. absurd (none (
   c.in-Some.form,
   subst (λ (s : Schema). IsOfTableLayout c.in-Some.form s) c.schema.ensures.value
       c.in-Some.ensures.some,

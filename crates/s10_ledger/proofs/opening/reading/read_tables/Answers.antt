@@ -1,5 +1,4 @@
 use Rattle.std.proofs.Common.{◌∙◌, ap, refl, sym, subst, arith, IsTrue}
-use Rattle.std.proofs.lemmas.Result.{IfOk-weaker}
 use Rattle.sqlite.specs.Effect.{Database}
 use Rattle.sqlite.specs.Held.{state}
 use Rattle.sqlite.specs.State.{HasCleanDisk}
@@ -29,12 +28,6 @@ returns-clause-leaves g c =
     (leaves_then g.S.Store c.args.conn.now c.closed_rows.new.conn c.read_call_rows.new.conn
     c.closed_rows.ensures.leaves c.read_call_rows.ensures.leaves)
     c.read_derived_rows.ensures.leaves
-
-pub returns-clause-replayed : goal.returns-clause-replayed
-returns-clause-replayed g c = IfOk-weaker c.of-made.result _ _ (λ made it. (
-  c.in_ok-heads.heads.items,
-  (c.in_ok-heads.calls.items, it),
-)) c.of-made.ensures.ok
 
 pub returns-clause-rows : goal.returns-clause-rows
 returns-clause-rows g c clean opened settled =
@@ -80,8 +73,8 @@ returns-clause-rows g c clean opened settled =
           }) made.numbered (c.in_ok-closed.ensures.rows closed_clean);
       in_order = kept.in_order;
       theirs = record { ranges = refl; serials = refl; closed = refl };
-      ok = c.of-made.ensures.ok;
-      err = c.of-made.ensures.err tables refl refl;
+      ok = c.replayed_book-book.ensures.ok;
+      err = c.replayed_book-book.ensures.err tables refl refl;
     }
 
 pub returns-in_err-closed-clause-spares : goal.returns-in_err-closed-clause-spares

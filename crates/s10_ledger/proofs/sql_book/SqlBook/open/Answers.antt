@@ -1,10 +1,13 @@
-use Rattle.std.proofs.Common.{rules, List, sym, subst, refl}
+use Rattle.std.proofs.Common.{rules, List, length, sym, subst, refl}
 use Rattle.std.proofs.lemmas.List.{append-nil}
 use Rattle.s10_history.specs.declared.entry.Entry.{Entry}
 use Rattle.s10_book.specs.Rules.{IsLegal}
-use Rattle.s10_ledger.specs.Ledger.{history_in}
+use Rattle.s10_history.specs.History.{day_of}
+use Rattle.s10_index.specs.CallIndex.{Indexes}
+use Rattle.s10_ledger.specs.Ledger.{IsLedger, IsAnyLedger, history_in}
 use Rattle.sqlite.specs.Held.{state}
 use Rattle.s10_ledger.proofs.BookLemmas.{closed_is}
+use Rattle.s10_ledger.proofs.OpeningLemmas.{handed_out}
 use Rattle.s10_ledger.proofs.RefusalLemmas.{ledger_opens}
 use Rattle.s10_ledger.proofs.sql_book.SqlBook.open.Goals as goal
 
@@ -28,19 +31,25 @@ returns-in-Ok-clause-completed g c honest = closed_is (state g.S.Store c.over.re
 
 pub returns-in-Ok-clause-honest : goal.returns-in-Ok-clause-honest
 returns-in-Ok-clause-honest g c = rw c.over.ensures (λ clean opened.
-    let it = c.in-Ok.ensures.ledger clean opened in
+    let it = handed_out (λ t h. IsLedger (state g.S.Store c.ledger_in.new.conn).now t (length h)
+    (day_of h)) c.in-Ok.book c.settings-settings.result c.into_index.result
+    (c.settings-settings.ensures tt) c.into_index.ensures.indexed
+    (c.in-Ok.ensures.ledger clean opened) in
     record {
       clean = clean;
       is_open = opened;
       committed = c.ledger_in.ensures.settled.committed clean opened;
       ledger = it;
-      legal = subst (λ (h : List Entry). IsLegal h c.in-Ok.opened.settings)
+      legal = subst (λ (h : List Entry). IsLegal h c.settings-settings.result)
           (sym (append-nil (history_in (state g.S.Store c.ledger_in.new.conn).now))) it.legal;
     })
 
 pub returns-in-Ok-clause-found : goal.returns-in-Ok-clause-found
 returns-in-Ok-clause-found g c =
-    rw c.over.ensures (λ honest. c.in-Ok.ensures.found honest.clean honest.is_open)
+    rw c.over.ensures (λ honest. handed_out (λ t h. IsAnyLedger (state g.S.Store c.args.conn).now t
+    (length h) (day_of h)) c.in-Ok.book c.settings-settings.result c.into_index.result
+    (c.settings-settings.ensures tt) c.into_index.ensures.indexed
+    (c.in-Ok.ensures.found honest.clean honest.is_open))
 
 pub returns-in-Ok-clause-same : goal.returns-in-Ok-clause-same
 returns-in-Ok-clause-same g c =
@@ -48,10 +57,16 @@ returns-in-Ok-clause-same g c =
 
 pub over-requires : goal.over-requires
 over-requires g c = record {
-  few = c.in-Ok.ensures.few;
+  few = c.into_index.ensures.few;
   settled = c.ledger_in.ensures.settled;
-  ledger = λ clean opened. c.in-Ok.ensures.ledger clean opened;
-  indexed = c.in-Ok.ensures.indexed;
+  ledger = λ clean opened. handed_out (λ t h. IsLedger (state g.S.Store c.ledger_in.new.conn).now t
+      (length h) (day_of h)) c.in-Ok.book c.settings-settings.result c.into_index.result
+      (c.settings-settings.ensures tt) c.into_index.ensures.indexed
+      (c.in-Ok.ensures.ledger clean opened);
+  indexed = λ clean opened.
+      let held = c.in-Ok.ensures.indexed clean opened in
+      subst (λ (h : List Entry). Indexes c.into_index.result h) held.calls
+      c.into_index.ensures.indexed;
   opened = λ clean. c.in-Ok.ensures.opened clean;
 }
 

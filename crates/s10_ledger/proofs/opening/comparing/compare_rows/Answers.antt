@@ -9,11 +9,11 @@ use Rattle.s10_replay.specs.RightRows.{kept_of}
 use Rattle.s10_rows.specs.Selected.{IsCall}
 use Rattle.s10_rows.specs.Tables.{HaveSameRows, range_rows, serial_rows, closed_rows}
 use Rattle.s10_replay.proofs.Compared.{right_calls}
-use Rattle.s10_index.proofs.ReplayedBookLemmas.{restored}
-use Rattle.s10_index.proofs.comparing.compare_rows.Goals as goal
-use Rattle.s10_index.proofs.comparing.compare_rows.Goals.{else-ranges-via-then-ranges+then-serials+else-closed}
-use Rattle.s10_index.proofs.comparing.compare_rows.Goals.{else-ranges-via-then-ranges+else-serials}
-use Rattle.s10_index.proofs.comparing.compare_rows.Goals.{else-ranges-via-else-ranges}
+use Rattle.s10_ledger.proofs.ReplayedBookLemmas.{restored}
+use Rattle.s10_ledger.proofs.opening.comparing.compare_rows.Goals as goal
+use Rattle.s10_ledger.proofs.opening.comparing.compare_rows.Goals.{else-ranges-via-then-ranges+then-serials+else-closed}
+use Rattle.s10_ledger.proofs.opening.comparing.compare_rows.Goals.{else-ranges-via-then-ranges+else-serials}
+use Rattle.s10_ledger.proofs.opening.comparing.compare_rows.Goals.{else-ranges-via-else-ranges}
 
 pub returns-in_err-ranges-clause-err : goal.returns-in_err-ranges-clause-err
 returns-in_err-ranges-clause-err c tables t theirs head right kept =

@@ -3,8 +3,8 @@ use Rattle.std.proofs.lemmas.Result.{err_from_is_err_and}
 use Rattle.s10_history.specs.Settings.{Terms}
 use Rattle.s10_replay.specs.RightRows.{AreRight}
 use Rattle.s10_replay.specs.CheckedTables.{IsHead}
-use Rattle.s10_index.proofs.ReplayFaults.{replay_fault}
-use Rattle.s10_index.proofs.replayed_book.replay_calls.Goals as goal
+use Rattle.s10_ledger.proofs.ReplayFaults.{replay_fault}
+use Rattle.s10_ledger.proofs.opening.replaying.replay_calls.Goals as goal
 
 pub returns-in_err-replay_rows-clause-err : goal.returns-in_err-replay_rows-clause-err
 returns-in_err-replay_rows-clause-err c = λ tables same head.

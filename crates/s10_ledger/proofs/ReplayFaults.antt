@@ -1,6 +1,6 @@
--- Which faults a replay in the process has.
+-- What a replay in the process gives, and which faults it has.
 use Rattle.std.proofs.Common.{◌≡◌, ◌≢◌, ◌∙◌, refl, sym, ap, ℤ, pos, arith, List, [], ◌∷◌, Result}
-use Rattle.std.proofs.Common.{Ok, Err, IfErr}
+use Rattle.std.proofs.Common.{Ok, Err, IfOk, IfErr, subst}
 use Rattle.s10_history.specs.Settings.{Terms}
 use Rattle.s10_book.specs.declared.faults.Faults.{Faults}
 use Rattle.s10_rows.specs.declared.head_row.HeadRow.{HeadRow}
@@ -10,7 +10,10 @@ use Rattle.s10_rows.specs.declared.open_fault.OpenFault.TheVariants.{NotEmpty, M
 use Rattle.s10_rows.specs.Tables.{Tables}
 use Rattle.s10_replay.specs.CheckedTables.{IsHead, IsRefusal}
 use Rattle.s10_replay.specs.FaultNames.{IsHeadFault, CountsReplayFault}
-use Rattle.s10_index.specs.ReplayedBook.{IsReplayFault}
+use Rattle.s10_rows.specs.CallRow.{StoredCall}
+use Rattle.s10_replay.specs.RightRows.{AreRight, kept_of}
+use Rattle.s10_index.specs.declared.indexed_book.IndexedBook.{IndexedBook}
+use Rattle.s10_ledger.specs.Replaying.{IsReplayedBook, IsReplayFault}
 
 -- A book that counts no fault of the store has none.
 pub replay_fault : (f : OpenFault) (before after : Faults) → before.store ≡ 0 → after.store ≡ 0
@@ -61,3 +64,16 @@ right_head heads t head (Damaged k) is refused = is
 right_head heads t head NotEmpty is refused = is
 right_head heads t head Memory is refused = is
 right_head heads t head Store is refused = is
+
+-- The book of the right calls under the settings of head.
+pub replayed : (heads : List HeadRow) (rows calls : List StoredCall) (t : Terms) → rows ≡ calls
+    → IsHead heads (pos 1) t → (r : Result IndexedBook OpenFault)
+    → IfOk r (λ book. book.settings ≡ t) → IfOk r (λ book. AreRight t rows)
+    → IfOk r (λ book. book.index.entries.items ≡ kept_of rows) → IfOk r (IsReplayedBook heads calls)
+replayed heads rows calls t are head (Ok book) same right kept = record {
+  head = subst (λ (u : Terms). IsHead heads (pos 1) u) (sym same) head;
+  right = subst (λ (u : Terms). AreRight u calls) (sym same)
+      (subst (λ (l : List StoredCall). AreRight t l) are right);
+  kept = kept ∙ ap kept_of are;
+}
+replayed heads rows calls t are head (Err fault) same right kept = tt

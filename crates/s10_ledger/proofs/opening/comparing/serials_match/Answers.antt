@@ -2,7 +2,7 @@ use Rattle.std.proofs.Common.{sym, subst, refl}
 use Rattle.std.proofs.lemmas.List.Sorted.{IsPermutation-refl}
 use Rattle.s10_rows.specs.Tables.{HaveSameRows, serial_rows}
 use Rattle.s10_replay.proofs.Compared.{serial_rows_apart, alike}
-use Rattle.s10_index.proofs.comparing.serials_match.Goals as goal
+use Rattle.s10_ledger.proofs.opening.comparing.serials_match.Goals as goal
 
 pub returns-clause-answer : goal.returns-clause-answer
 returns-clause-answer c calls =

@@ -2,7 +2,7 @@ use s10_rows::{ClosedRow, RangeRow, SerialRow};
 
 /// The derived rows of a ledger as they were read from its tables, not yet checked.
 #[derive(Drop)]
-pub struct StoredRows {
+pub(crate) struct StoredRows {
     /// The rows of `ranges`.
     pub ranges: Vec<RangeRow>,
     /// The rows of `serials`.

@@ -1,0 +1,75 @@
+use Rattle.std.proofs.lemmas.Result.{IfErr-weaker, err_from_is_err_and}
+use Rattle.sqlite.specs.Effect.{Database}
+use Rattle.sqlite.specs.Held.{state}
+use Rattle.s10_replay.specs.CheckedTables.{IsRefusal}
+use Rattle.s10_statements.proofs.RowByRow.{if_ok, if_err}
+use Rattle.s10_ledger.proofs.WholeLemmas.{refused_for}
+use Rattle.s10_ledger.proofs.opening.replay_tables.Goals as goal
+
+pub returns-clause-found : goal.returns-clause-found
+returns-clause-found g c clean opened =
+    let read = c.in-Ok.ensures.rows clean opened c.requires.settled in
+    let made = if_ok c.in-Ok.read.0 _ c.in_ok-book.book c.in_ok-book.was read.ok in
+    record {
+      tables = read.tables;
+      has = read.has;
+      whole = record {
+        head = made.head;
+        right = made.right;
+        made = c.in_ok-compare_rows.ensures.ok read.tables c.in_ok-book.book.settings read.theirs
+            made.right made.kept;
+      };
+      kept = made.kept;
+    }
+
+pub returns-in_err-compare_rows-clause-refused : goal.returns-in_err-compare_rows-clause-refused
+returns-in_err-compare_rows-clause-refused g c clean opened =
+    let db : Database = (state g.S.Store c.args.conn.now).now in
+    let read = c.in-Ok.ensures.rows clean opened c.requires.settled in
+    let made = if_ok c.in-Ok.read.0 _ c.in_ok-book.book c.in_ok-book.was read.ok in
+    let p = err_from_is_err_and c.from_residual-in_err-compare_rows.result
+    c.from_residual-in_err-compare_rows.ensures.1 in
+    rw (p.1, p.2) (refused_for db read.tables (record {
+      form = c.args.form;
+      has = read.has;
+      in_order = read.in_order;
+    }) c.in_err-compare_rows.field-0.0
+    (c.in_err-compare_rows.ensures.err read.tables c.in_ok-book.book.settings read.theirs made.head
+    made.right made.kept))
+
+pub returns-in_err-book-clause-refused : goal.returns-in_err-book-clause-refused
+returns-in_err-book-clause-refused g c clean opened =
+    let db : Database = (state g.S.Store c.args.conn.now).now in
+    let read = c.in-Ok.ensures.rows clean opened c.requires.settled in
+    let p = err_from_is_err_and c.from_residual.result c.from_residual.ensures.1 in
+    rw (p.1, p.2) (refused_for db read.tables (record {
+      form = c.args.form;
+      has = read.has;
+      in_order = read.in_order;
+    }) c.in_err-book.field-0.0
+    (if_err c.in-Ok.read.0 (IsRefusal read.tables) c.in_err-book.field-0.0 c.in_err-book.was
+    read.err))
+
+pub returns-clause-leaves : goal.returns-clause-leaves
+returns-clause-leaves g c = c.read_tables.ensures.leaves
+
+pub returns-in_err-compare_rows-clause-leaves : goal.returns-in_err-compare_rows-clause-leaves
+returns-in_err-compare_rows-clause-leaves g c = c.read_tables.ensures.leaves
+
+pub returns-in_err-book-clause-leaves : goal.returns-in_err-book-clause-leaves
+returns-in_err-book-clause-leaves g c = c.read_tables.ensures.leaves
+
+pub returns-in-Err-clause-leaves : goal.returns-in-Err-clause-leaves
+returns-in-Err-clause-leaves g c = c.read_tables.ensures.leaves
+
+pub returns-clause-spares : goal.returns-clause-spares
+returns-clause-spares g c = c.read_tables.ensures.spares c.requires.settled
+
+pub returns-in_err-compare_rows-clause-spares : goal.returns-in_err-compare_rows-clause-spares
+returns-in_err-compare_rows-clause-spares g c = c.read_tables.ensures.spares c.requires.settled
+
+pub returns-in_err-book-clause-spares : goal.returns-in_err-book-clause-spares
+returns-in_err-book-clause-spares g c = c.read_tables.ensures.spares c.requires.settled
+
+pub returns-in-Err-clause-spares : goal.returns-in-Err-clause-spares
+returns-in-Err-clause-spares g c = c.read_tables.ensures.spares c.requires.settled
