@@ -15,7 +15,7 @@ use Rattle.s10_wire.specs.declared.body.Body.{Body}
 use Rattle.s10_wire.specs.declared.reply.Reply.{Reply}
 use Rattle.s10_wire.specs.Datagrams.{Asks}
 use Rattle.s10_wire.specs.Reply.{request_of}
-use Rattle.s10_ends.specs.declared.call_fault.CallFault.TheVariants.{GaveUp, Link}
+use Rattle.s10_ends.specs.declared.calls.CallFault.TheVariants.{GaveUp, Link}
 use Rattle.s10_ends.specs.Client.{ClientState, next_request, after_submit, submit_fault}
 use Rattle.s10_ends.specs.Client.{without_pending}
 use Rattle.s10_ends.specs.Calls.{SentOnly, Tried, TookAllBut, Ended, EndsTry, IsCut, Stopped, Heard}

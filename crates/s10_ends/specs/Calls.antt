@@ -15,8 +15,8 @@ use Rattle.s10_wire.specs.Datagrams.{Asks, Replies}
 use Rattle.s10_wire.specs.Reply.{request_of, outcome_of}
 use Rattle.s10_link.specs.Trace.{IsAfterFrame}
 use Rattle.s10_link.specs.Link.{Sends}
-use Rattle.s10_ends.specs.declared.call_fault.CallFault.{CallFault}
-use Rattle.s10_ends.specs.declared.call_fault.CallFault.TheVariants.{Submit, GaveUp, Link}
+use Rattle.s10_ends.specs.declared.calls.CallFault.{CallFault}
+use Rattle.s10_ends.specs.declared.calls.CallFault.TheVariants.{Submit, GaveUp, Link}
 use Rattle.s10_ends.specs.Client.{ClientState, next_request, after_submit, submit_fault}
 use Rattle.s10_ends.specs.Client.{without_pending}
 

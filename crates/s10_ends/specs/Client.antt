@@ -8,8 +8,8 @@ use Rattle.s10_wire.specs.declared.frame.Frame.{Frame}
 use Rattle.s10_wire.specs.Datagrams.{Asks, Replies}
 use Rattle.s10_wire.specs.WireFault.{IsFirstRefusalOfReply}
 use Rattle.s10_wire.specs.Reply.{request_of, outcome_of}
-use Rattle.s10_ends.specs.declared.submit_fault.SubmitFault.{SubmitFault}
-use Rattle.s10_ends.specs.declared.submit_fault.SubmitFault.TheVariants.{Busy, NumbersSpent}
+use Rattle.s10_ends.specs.declared.client.SubmitFault.{SubmitFault}
+use Rattle.s10_ends.specs.declared.client.SubmitFault.TheVariants.{Busy, NumbersSpent}
 use Rattle.s10_ends.specs.declared.received.Received.{Received}
 use Rattle.s10_ends.specs.declared.received.Received.TheVariants.{Malformed, Idle, NotMine}
 use Rattle.s10_ends.specs.declared.received.Received.TheVariants.{Accepted}

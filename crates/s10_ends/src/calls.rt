@@ -5,11 +5,28 @@ ghost use Rattle.s10_link.specs.Link.{LeadsTo};
 ghost use Rattle.s10_ends.specs.Calls.{Calls, Attempts, Listens};
 ghost use Rattle.s10_ends.specs.Client.{ClientReceives};
 
-use crate::call_fault::CallFault;
-use crate::client::Client;
+use crate::client::{Client, SubmitFault};
 use crate::received::Received;
 use s10_link::{Link, LinkFault, Packet, Peer};
-use s10_wire::{Body, Frame, Reply, encode_request};
+use s10_wire::{Body, Frame, Reply, Request, encode_request};
+use thiserror::Error;
+
+/// The reason why a call has no reply.
+///
+/// After `GaveUp` and `Link` the request was executed once or not at all, and its number is never
+/// used again.
+#[derive(Clone, Copy, Debug, PartialEq, Eq, Error)]
+pub enum CallFault {
+    /// The client did not accept the request, and nothing was sent.
+    #[error("{0}")]
+    Submit(SubmitFault),
+    /// No try received the reply to this request.
+    #[error("no reply came")]
+    GaveUp(Request),
+    /// A send or a receive failed during this request.
+    #[error("{1}")]
+    Link(Request, LinkFault),
+}
 
 /// Calls the server at `to` in up to `tries` tries, and returns its reply.
 ///

@@ -1,4 +1,4 @@
-//! Defines a client, without its link.
+//! Defines a client, without its link, and why it does not submit a request.
 
 ghost use Rattle.std.specs.Prelude.{◌≡◌, ◌≤◌, ◌↔◌, IsTrue, IfOk, IfSome, OnErr};
 ghost use Rattle.std.specs.Result.{OkIff, result_err};
@@ -6,11 +6,26 @@ ghost use Rattle.s10_ends.specs.Client.{ClientState, IsNew, IsClient, IsLatest, 
 ghost use Rattle.s10_ends.specs.Client.{next_request, after_submit, submit_fault, without_pending};
 ghost use Rattle.s10_ends.specs.Client.{AsksPending, ClientReceives};
 
-use crate::bad_numbers::BadNumbers;
 use crate::received::Received;
-use crate::submit_fault::SubmitFault;
 use s10_wire::{Body, Frame, Request, decode_reply, encode_request, same_request};
 use std::marker::Model;
+use thiserror::Error;
+
+/// The error of a client whose first request number is above its last.
+#[derive(Clone, Copy, Debug, PartialEq, Eq, Error)]
+#[error("the first request number is above the last")]
+pub struct BadNumbers;
+
+/// The reason why a request was not submitted: the first variant that applies.
+#[derive(Clone, Copy, Debug, PartialEq, Eq, Error)]
+pub enum SubmitFault {
+    /// A request is pending.
+    #[error("a request is pending")]
+    Busy,
+    /// The last number was used.
+    #[error("no request number is left")]
+    NumbersSpent,
+}
 
 /// A client of one customer. It numbers its requests in order, and has at most one pending request.
 ///

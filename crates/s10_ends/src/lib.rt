@@ -2,9 +2,7 @@
 #![tactic(auto)]
 
 mod answer;
-mod bad_numbers;
 mod batch;
-mod call_fault;
 mod calls;
 mod client;
 mod committing;
@@ -17,15 +15,12 @@ mod receiving;
 mod replying;
 mod server;
 mod server_turn;
-mod submit_fault;
 mod turn;
 
 pub use answer::Answer;
-pub use bad_numbers::BadNumbers;
 pub use batch::serve_batch;
-pub use call_fault::CallFault;
-pub use calls::call;
-pub use client::Client;
+pub use calls::{CallFault, call};
+pub use client::{BadNumbers, Client, SubmitFault};
 pub use delivery::Delivery;
 pub use exchange::Exchange;
 pub use laws::{batches_compose, batches_survive_stops};
@@ -33,5 +28,4 @@ pub use near_link::NearLink;
 pub use received::Received;
 pub use server::Server;
 pub use server_turn::{ServerTurn, Turn};
-pub use submit_fault::SubmitFault;
 pub use turn::{serve_batch_of_one, serve_one};

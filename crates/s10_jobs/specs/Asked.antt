@@ -10,8 +10,8 @@ use Rattle.s10_wire.specs.declared.outcome.Outcome.TheVariants.{NumberReused}
 use Rattle.s10_wire.specs.declared.reply.Reply.{Reply}
 use Rattle.s10_wire.specs.Reply.{request_of, outcome_of}
 use Rattle.s10_lines.specs.Lines.{line_of, reply_line}
-use Rattle.s10_ends.specs.declared.call_fault.CallFault.{CallFault}
-use Rattle.s10_ends.specs.declared.call_fault.CallFault.TheVariants.{Submit, GaveUp, Link}
+use Rattle.s10_ends.specs.declared.calls.CallFault.{CallFault}
+use Rattle.s10_ends.specs.declared.calls.CallFault.TheVariants.{Submit, GaveUp, Link}
 use Rattle.s10_jobs.specs.declared.job_status.JobStatus.{JobStatus}
 use Rattle.s10_jobs.specs.declared.job_status.JobStatus.TheVariants.{Done, Refused, CommandLine}
 use Rattle.s10_jobs.specs.declared.job_status.JobStatus.TheVariants.{Failed}

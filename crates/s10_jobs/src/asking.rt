@@ -4,7 +4,7 @@ ghost use Rattle.std.specs.Prelude.{◌≡◌, ◌≤◌, Result, IfOk};
 ghost use Rattle.std.specs.Io.KnownBytes.{Appends};
 ghost use Rattle.s10_wire.specs.declared.reply.Reply.{Reply};
 ghost use Rattle.s10_link.specs.Link.{LeadsTo};
-ghost use Rattle.s10_ends.specs.declared.call_fault.CallFault.{CallFault};
+ghost use Rattle.s10_ends.specs.declared.calls.CallFault.{CallFault};
 ghost use Rattle.s10_ends.specs.Calls.{Calls};
 ghost use Rattle.s10_jobs.specs.Asked.{outcome_status, asked_status, asked_line};
 

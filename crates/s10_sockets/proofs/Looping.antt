@@ -8,8 +8,8 @@ use Rattle.s10_wire.specs.declared.body.Body.{Body}
 use Rattle.s10_wire.specs.declared.reply.Reply.{Reply}
 use Rattle.s10_link.specs.declared.peer.Peer.{Peer}
 use Rattle.s10_link.specs.declared.trace.Trace.{Trace}
-use Rattle.s10_ends.specs.declared.call_fault.CallFault.{CallFault}
-use Rattle.s10_ends.specs.declared.call_fault.CallFault.TheVariants.{Submit, GaveUp, Link}
+use Rattle.s10_ends.specs.declared.calls.CallFault.{CallFault}
+use Rattle.s10_ends.specs.declared.calls.CallFault.TheVariants.{Submit, GaveUp, Link}
 use Rattle.s10_ends.specs.Calls.{Calls}
 use Rattle.s10_ends.specs.Client.{ClientState, after_submit, without_pending}
 use Rattle.s10_lines.specs.declared.write_fault.WriteFault.{WriteFault}

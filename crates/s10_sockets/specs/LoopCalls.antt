@@ -6,7 +6,7 @@ use Rattle.s10_wire.specs.declared.body.Body.TheVariants.{Grant, Draw, Void, Que
 use Rattle.s10_wire.specs.declared.reply.Reply.{Reply}
 use Rattle.s10_link.specs.declared.peer.Peer.{Peer}
 use Rattle.s10_link.specs.declared.trace.Trace.{Trace}
-use Rattle.s10_ends.specs.declared.call_fault.CallFault.{CallFault}
+use Rattle.s10_ends.specs.declared.calls.CallFault.{CallFault}
 use Rattle.s10_ends.specs.Calls.{Calls}
 use Rattle.s10_ends.specs.Client.{ClientState, new_client, after_submit, without_pending}
 use Rattle.s10_jobs.specs.declared.job_status.JobStatus.{JobStatus}

@@ -11,7 +11,7 @@ use Rattle.s10_link.specs.Trace.{new_trace}
 use Rattle.s10_link.specs.UdpLink.{BoundLink, IsBoundAt}
 use Rattle.s10_ends.specs.Client.{ClientState, new_client}
 use Rattle.s10_ends.specs.Calls.{Calls}
-use Rattle.s10_ends.specs.declared.call_fault.CallFault.{CallFault}
+use Rattle.s10_ends.specs.declared.calls.CallFault.{CallFault}
 use Rattle.s10_jobs.specs.declared.job_status.JobStatus.{JobStatus}
 use Rattle.s10_jobs.specs.declared.job_status.JobStatus.TheVariants.{Refused, Failed}
 use Rattle.s10_jobs.specs.declared.refusal.Refusal.{Refusal}

@@ -3,7 +3,7 @@
 ghost use Rattle.std.specs.Prelude.{◌≡◌, Result, IfOk};
 ghost use Rattle.std.specs.Io.KnownBytes.{Appends};
 ghost use Rattle.s10_wire.specs.declared.reply.Reply.{Reply};
-ghost use Rattle.s10_ends.specs.declared.call_fault.CallFault.{CallFault};
+ghost use Rattle.s10_ends.specs.declared.calls.CallFault.{CallFault};
 ghost use Rattle.s10_ends.specs.Calls.{Calls};
 ghost use Rattle.s10_ends.specs.Client.{ClientState, new_client};
 ghost use Rattle.s10_link.specs.Link.{LeadsTo};

@@ -6,13 +6,13 @@ use Rattle.std.proofs.lemmas.Option.{slice_get_within, slice_get-get_or, get_or_
 use Rattle.s10_wire.specs.declared.body.Body.{Body}
 use Rattle.s10_wire.specs.declared.request.Request.{Request}
 use Rattle.s10_history.specs.Settings.{Terms}
-use Rattle.s10_ends.specs.declared.submit_fault.SubmitFault.{SubmitFault}
+use Rattle.s10_ends.specs.declared.client.SubmitFault.{SubmitFault}
 use Rattle.s10_ends.specs.Client.{ClientState, next_request, after_submit, submit_fault}
 use Rattle.s10_ends.specs.Client.{without_pending}
 use Rattle.s10_world.specs.declared.event.Event.{Event}
 use Rattle.s10_world.specs.declared.event.Event.TheVariants.{Submit, Resend, GiveUp, ToServer}
 use Rattle.s10_world.specs.declared.event.Event.TheVariants.{Strange, ToClient}
-use Rattle.s10_world.specs.declared.world_fault.WorldFault.{WorldFault}
+use Rattle.s10_world.specs.declared.network.WorldFault.{WorldFault}
 use Rattle.s10_world.specs.Parts.{place_of}
 use Rattle.s10_world.specs.World.{WorldState, after_submit_by, after_give_up_by, SendsPending}
 use Rattle.s10_world.specs.World.{Resends, ServesRequest, ReachesServer, DeliversRequest}

@@ -22,8 +22,8 @@ use Rattle.s10_book.specs.declared.faults.Faults.{Faults}
 use Rattle.s10_history.specs.Settings.{Terms}
 use Rattle.s10_history.specs.History.{has_key, find_entry}
 use Rattle.s10_book.specs.Once.{applied_once}
-use Rattle.s10_ends.specs.declared.submit_fault.SubmitFault.{SubmitFault}
-use Rattle.s10_ends.specs.declared.submit_fault.SubmitFault.TheVariants.{Busy, NumbersSpent}
+use Rattle.s10_ends.specs.declared.client.SubmitFault.{SubmitFault}
+use Rattle.s10_ends.specs.declared.client.SubmitFault.TheVariants.{Busy, NumbersSpent}
 use Rattle.s10_ends.specs.Served.{GivesOutcome, IsOwed}
 use Rattle.s10_ends.specs.Client.{ClientState, next_number, next_request, after_submit}
 use Rattle.s10_ends.specs.Client.{submit_fault, without_pending}
@@ -33,7 +33,7 @@ use Rattle.s10_world.specs.declared.event.Event.TheVariants.{Strange, ToClient}
 use Rattle.s10_world.specs.World.{Acceptance, WorldState, after_submit_by, after_give_up_by}
 use Rattle.s10_world.specs.World.{SendsPending, Resends, ServesRequest, ReachesServer}
 use Rattle.s10_world.specs.World.{DeliversRequest, DeliversReply, Step, Steps}
-use Rattle.s10_world.specs.declared.world_fault.WorldFault.{WorldFault}
+use Rattle.s10_world.specs.declared.network.WorldFault.{WorldFault}
 use Rattle.s10_world.specs.Parts.{place_of}
 use Rattle.s10_world.specs.Sound.{GivesIn, IsGivenBy, IsTakenBy, IsOfClient, IsAwaited}
 use Rattle.s10_world.specs.Sound.{IsSoundWorld}

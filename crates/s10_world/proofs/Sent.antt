@@ -21,7 +21,7 @@ use Rattle.s10_history.specs.Settings.{Terms}
 use Rattle.s10_history.specs.History.{find_entry}
 use Rattle.s10_book.specs.Once.{applied, applied_once}
 use Rattle.s10_ends.specs.declared.answer.Answer.TheVariants.{Reply as replied_with, Faulted}
-use Rattle.s10_ends.specs.declared.submit_fault.SubmitFault.{SubmitFault}
+use Rattle.s10_ends.specs.declared.client.SubmitFault.{SubmitFault}
 use Rattle.s10_ends.specs.declared.received.Received.{Received}
 use Rattle.s10_ends.specs.declared.received.Received.TheVariants.{Malformed, Idle, NotMine}
 use Rattle.s10_ends.specs.declared.received.Received.TheVariants.{Accepted}

@@ -10,8 +10,8 @@ use Rattle.s10_ends.specs.declared.server.Server.{Server}
 use Rattle.s10_ends.specs.Server.{book_of}
 use Rattle.s10_ends.specs.Client.{ClientState}
 use Rattle.s10_world.specs.declared.network.Network.{Network}
-use Rattle.s10_world.specs.declared.world_fault.WorldFault.{WorldFault}
-use Rattle.s10_world.specs.declared.world_fault.WorldFault.TheVariants.{Memory}
+use Rattle.s10_world.specs.declared.network.WorldFault.{WorldFault}
+use Rattle.s10_world.specs.declared.network.WorldFault.TheVariants.{Memory}
 use Rattle.s10_world.specs.World.{Acceptance, WorldState}
 
 -- The server.

@@ -5,9 +5,8 @@ mod event;
 mod laws;
 mod network;
 mod world;
-mod world_fault;
 
 pub use event::Event;
 pub use laws::reachable_worlds;
+pub use network::WorldFault;
 pub use world::World;
-pub use world_fault::WorldFault;

@@ -1,11 +1,20 @@
 //! Executes the events of a world.
 
 use crate::event::Event;
-use crate::world_fault::WorldFault;
 use s10_book::Book;
 use s10_ends::{Answer, Client, Received, Server};
 use s10_wire::{Body, Frame, Reply, Request};
 use std::alloc::AllocError;
+use thiserror::Error;
+
+/// The reason why a run ended before its last event.
+#[derive(Clone, Copy, Debug, PartialEq, Eq, Error)]
+pub enum WorldFault {
+    /// The index, from 0, of the event for which memory was lacking. The events before it were
+    /// executed, and this one changed nothing.
+    #[error("no memory for event {0}")]
+    Memory(usize),
+}
 
 /// A server, its clients, and everything that was sent between them.
 #[derive(Drop)]

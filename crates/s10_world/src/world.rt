@@ -1,8 +1,7 @@
 //! Defines both ends and the network between them.
 
 use crate::event::Event;
-use crate::network::Network;
-use crate::world_fault::WorldFault;
+use crate::network::{Network, WorldFault};
 use s10_book::Book;
 use s10_ends::{Client, Server};
 use s10_wire::{Frame, Reply, Request};
