@@ -66,12 +66,20 @@ overlapping s c first last r es ec low high order =
     (le-leb r.first last low)) (le-leb first r.last high)) (le-leb first last order)
 
 -- A Grant is done only if no range overlaps.
-granted_when : (b1 b2 b3 : Bool) (n m : ℕ)
+pub granted_when : (b1 b2 b3 : Bool) (n m : ℕ)
     → cond b1 NotThePost (cond b2 BadGrant (cond b3 Overlap (Granted n))) ≡ Granted m → b3 ≡ false
 granted_when true b2 b3 n m h = cc
 granted_when false true b3 n m h = cc
 granted_when false false true n m h = cc
 granted_when false false false n m h = refl
+
+-- The number of a Done Grant is that of the next range.
+pub granted_parts : (b1 b2 b3 : Bool) (n m : ℕ)
+    → cond b1 NotThePost (cond b2 BadGrant (cond b3 Overlap (Granted n))) ≡ Granted m → n ≡ m
+granted_parts true b2 b3 n m e = cc
+granted_parts false true b3 n m e = cc
+granted_parts false false true n m e = cc
+granted_parts false false false n m e = cc
 
 pub none_pass : {A : Type 0} (p : A → Bool) (xs : List A) → list_any p xs ≡ false
     → All (λ x. p x ≡ false) xs

@@ -1,6 +1,6 @@
 -- One call after another.
 use Rattle.std.proofs.Common.{◌≡◌, ◌++◌, ◌∙◌, refl, sym, ap, List, [], ◌∷◌, append-nil}
-use Rattle.std.proofs.Common.{append_assoc, ◌⊎◌, Option, Some, subst, inl, inr, ⊎_elim}
+use Rattle.std.proofs.Common.{append_assoc, Option, subst, inl, inr, ⊎_elim}
 use Rattle.s10_history.specs.declared.entry.Entry.{Entry}
 use Rattle.s10_history.specs.Settings.{Terms}
 use Rattle.s10_book.specs.Book.{Grows, FindsAfter, IsPerhapsWith, Unchanged}

@@ -3,7 +3,7 @@ use Rattle.std.proofs.Common.{◌≡◌, ℕ, zero, suc, ◌≤◌, List, [], �
 use Rattle.std.proofs.Common.{arith, length, take, take_all}
 use Rattle.std.specs.Prelude.{slice_get}
 use Rattle.std.specs.Option.{option_map}
-use Rattle.std.proofs.lemmas.Option.{same_Some}
+use Rattle.std.proofs.lemmas.Option.{same_Some, slice_get-map}
 use Rattle.s10_wire.specs.declared.request.Request.{Request}
 use Rattle.s10_wire.specs.declared.outcome.Outcome.{Outcome}
 use Rattle.s10_history.specs.declared.entry.Entry.{Entry}
@@ -11,16 +11,7 @@ use Rattle.s10_history.specs.Settings.{Terms}
 use Rattle.s10_book.specs.Rules.{answer_of, IsLegal}
 use Rattle.s10_book.specs.Promises.{request_on_day}
 use Rattle.s10_book.proofs.Legal.{element}
-
-mapped_at : {A B : Type 0} (f : A → B) (xs : List A) (n : ℕ) → slice_get (map f xs) n
-    ≡ option_map f (slice_get xs n)
-mapped_at f [] n = refl
-mapped_at f (x ∷ xs) zero = refl
-mapped_at f (x ∷ xs) (suc n) = mapped_at f xs n
-
-pub length-mapped : {A B : Type 0} (f : A → B) (xs : List A) → length (map f xs) ≡ length xs
-length-mapped f [] = refl
-length-mapped f (x ∷ xs) = ap suc (length-mapped f xs)
+use Rattle.std.proofs.lemmas.List.{length-map}
 
 same_entry : (g h : List Entry) (n : ℕ) (x y : Entry) → g ≡ h → request_on_day x ≡ request_on_day y
     → x.outcome ≡ answer_of g x.request x.day n → y.outcome ≡ answer_of h y.request y.day n → x ≡ y
@@ -45,8 +36,8 @@ same_entry g h n x y same both is_x is_y =
     ap with_request same_request ∙ ap with_day same_day ∙ ap with_outcome same_outcome
 
 same_length : (g h : List Entry) → map request_on_day g ≡ map request_on_day h → length g ≡ length h
-same_length g h same = sym (length-mapped request_on_day g) ∙ ap length same
-    ∙ length-mapped request_on_day h
+same_length g h same = sym (length-map g request_on_day) ∙ ap length same
+    ∙ length-map h request_on_day
 
 same_start : (g h : List Entry) (t : Terms) → IsLegal g t → IsLegal h t → map request_on_day g
     ≡ map request_on_day h → (n : ℕ) → n ≤ length g → take n g ≡ take n h
@@ -57,8 +48,8 @@ same_start g h t legal_g legal_h same (suc n) le =
     let y = element h n (omega (arith, same_length g h same)) in
     let both : request_on_day x.0 ≡ request_on_day y.0 =
     same_Some (request_on_day x.0) (request_on_day y.0)
-    (sym (mapped_at request_on_day g n ∙ ap (option_map request_on_day) x.1)
-    ∙ ap (λ (l : List (Request × ℕ)). slice_get l n) same ∙ mapped_at request_on_day h n
+    (sym (slice_get-map request_on_day g n ∙ ap (option_map request_on_day) x.1)
+    ∙ ap (λ (l : List (Request × ℕ)). slice_get l n) same ∙ slice_get-map request_on_day h n
     ∙ ap (option_map request_on_day) y.1) in
     let is : x.0 ≡ y.0 = same_entry (take n g) (take n h) t.interval x.0 y.0 before both
     (legal_g.right n x.0 x.1) (legal_h.right n y.0 y.1) in

@@ -30,7 +30,7 @@ use Rattle.s10_history.proofs.Numbering.{Contains-find, found_passes}
 use Rattle.s10_book.proofs.Spaced.{InDays, sound}
 use Rattle.std.proofs.lemmas.List.Sums.{sum_by-cons}
 use Rattle.s10_book.proofs.Picking.{then_found, picks}
-use Rattle.s10_book.proofs.Marks.{one_range, all_at_pick}
+use Rattle.s10_book.proofs.Marks.{one_range, all_at_pick, at_serial}
 use Rattle.s10_book.proofs.Carried.{Contains-filter}
 use Rattle.s10_book.proofs.Taking.{drawn_on, row_of, last_here}
 use Rattle.std.proofs.lemmas.List.Kept.{AllPairs-filter}
@@ -112,10 +112,6 @@ taken_now is y day n on pos =
           | inr no' ↦ no'
         ]
 
-in_range : (r : Range) (s : ℕ) → r.first ≤ s → s < r.first + (r.last + 1 - r.first)
-    → lies_in r (id_at r s) ≡ true
-in_range r s le lt = lies_at r s (record { low = le; high = omega arith })
-
 free_in : List Issuance → ℕ → ℕ → Range → ℕ
 free_in is day n r = count_by (λ serial. is_free is (id_at r serial) day n) (serials r)
 
@@ -126,7 +122,7 @@ free_outside_is r is y day n out =
     count_same (λ serial. is_free is (id_at r serial) day n)
     (λ serial. is_free (is ++ y ∷ []) (id_at r serial) day n) r.first (r.last + 1 - r.first)
     (λ s le lt. free_other is y (id_at r s) day n (last_outside r is y (id_at r s) out
-    (in_range r s le lt)))
+    (at_serial r s le lt)))
 
 free_inside_is : (r : Range) (is : List Issuance) (y : Issuance) (m day n : ℕ) → r.first ≤ m
     → m ≤ r.last → y.id ≡ id_at r m → y.day ≡ day → 1 ≤ n → is_free is (id_at r m) day n ≡ true
@@ -196,7 +192,7 @@ none_free_in : (is : List Issuance) (day n : ℕ) (r : Range) → InDays is → 
 unfolding free_in
 none_free_in is day n r days taken =
     count_none (λ serial. is_free is (id_at r serial) day n) r.first (r.last + 1 - r.first)
-    (λ s le lt. at s (in_range r s le lt) (cases_Bool (is_free is (id_at r s) day n)))
+    (λ s le lt. at s (at_serial r s le lt) (cases_Bool (is_free is (id_at r s) day n)))
   where
     at : (s : ℕ) → lies_in r (id_at r s) ≡ true → (is_free is (id_at r s) day n ≡ true)
         ⊎ (is_free is (id_at r s) day n ≡ false) → is_free is (id_at r s) day n ≡ false

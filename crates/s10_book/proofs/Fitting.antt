@@ -102,7 +102,8 @@ answer_fits h customer (DrawMany s c count) day interval =
     row_fits s c count day (ranges_open h customer s c) (successive_draws h customer s c day
     interval count) (row_length h customer s c day interval count)
 
-found_place : {A : Type 0} (p : A → Bool) (xs : List A) (x : A) → find p xs ≡ Some x
+-- What is found is at an index.
+pub found_place : {A : Type 0} (p : A → Bool) (xs : List A) (x : A) → find p xs ≡ Some x
     → (k : ℕ) × (slice_get xs k ≡ Some x)
 found_place p [] x found = absurd (none-some x found)
 found_place p (y ∷ ys) x found =

@@ -3,12 +3,12 @@ use Rattle.std.proofs.Common.{◌≡◌, ℕ, zero, suc, ◌+◌, ◌-◌, ◌<�
 use Rattle.std.proofs.Common.{List, [], ◌∷◌, Option, Some, None, refl, sym, ap, ◌∙◌, inl, inr}
 use Rattle.std.proofs.Common.{arith, subst, Ok}
 use Rattle.std.specs.Prelude.{find, filter, All, IsTrue, IfOk, Result}
-use Rattle.std.specs.List.{list_any, last_or, range_with_len}
+use Rattle.std.specs.List.{last_or, range_with_len}
 use Rattle.std.proofs.lemmas.Bool.{both_ways, cases_Bool, cases_eq, eqb-true, leb-true, le-leb}
-use Rattle.std.proofs.lemmas.Bool.{not-true, not-false, and_parts, and_cases, or_parts}
-use Rattle.std.proofs.lemmas.Option.{none-some, same_Some}
+use Rattle.std.proofs.lemmas.Bool.{not-true, not-false, and_parts, and_cases}
+use Rattle.std.proofs.lemmas.Option.{none-some}
 use Rattle.std.proofs.lemmas.List.Folds.{list_any_none}
-use Rattle.std.proofs.lemmas.List.Elements.{All-nil, All-cons, All-head, All-tail, All-weaker}
+use Rattle.std.proofs.lemmas.List.Elements.{All-cons, All-weaker}
 use Rattle.std.specs.Option.{option_map, option_or, unwrap_or}
 use Rattle.s10_core.specs.declared.id.Id.{Id}
 use Rattle.s10_history.proofs.Earliest.{earliest_cons}
@@ -29,6 +29,8 @@ use Rattle.s10_book.specs.Rules.{IsLegal, draw_answer, outcome_of_pick, has_free
 use Rattle.s10_history.proofs.Numbering.{found_passes}
 use Rattle.s10_book.proofs.Apart.{within, letters_equal}
 use Rattle.s10_book.proofs.Spaced.{InDays, tail_days, head_days, last_none, id_itself, sound}
+use Rattle.s10_history.proofs.Issued.{last_all, last_or-more, none_filter}
+use Rattle.s10_book.proofs.Push.{none_kept}
 
 pub id_equal : (a b : Id) → same_id a b ≡ true → a ≡ b
 id_equal a b h =
@@ -37,40 +39,13 @@ id_equal a b h =
     let e0 : a.service ≡ b.service = letters_equal a.service b.service inner.0 in
     let e1 : a.serial ≡ b.serial = eqb-true a.serial b.serial inner.1 in
     let e2 : a.country ≡ b.country = letters_equal a.country b.country outer.1 in
-    let f : ℕ × ℕ → Id = λ u. record { service = u; serial = a.serial; country = a.country } in
-    let g : ℕ → Id = λ u. record { service = b.service; serial = u; country = a.country } in
-    let k : ℕ × ℕ → Id = λ u. record { service = b.service; serial = b.serial; country = u } in
-    ap f e0 ∙ ap g e1 ∙ ap k e2
+    λ k. record { service = e0 k; serial = e1 k; country = e2 k }
 
 -- An identifier of a range is determined by its serial.
 pub id_within : (r : Range) (x : Id) → lies_in r x ≡ true → id_at r x.serial ≡ x
 id_within r x lies =
     let in' = within r x lies in
-    let f : ℕ × ℕ → Id = λ u. record { service = u; serial = x.serial; country = r.country } in
-    let k : ℕ × ℕ → Id = λ u. record { service = x.service; serial = x.serial; country = u } in
-    ap f (sym in'.service) ∙ ap k (sym in'.country)
-
-last_or-more : {A : Type 0} (o : Option A) (xs : List A) (l : A) → last_or None xs ≡ Some l
-    → last_or o xs ≡ Some l
-last_or-more o [] l e = absurd (none-some l e)
-last_or-more o (x ∷ xs) l e = e
-
--- A property of each element holds of the last one that passes.
-last_all : (P : Issuance → Type 0) (p : Issuance → Bool) (o : Option Issuance) (xs : List Issuance)
-    (l : Issuance) → All P xs → ((m : Issuance) → o ≡ Some m → P m) → last_or o (filter p xs)
-    ≡ Some l → P l
-last_all P p o [] l all from e = from l e
-last_all P p o (x ∷ xs) l all from e =
-    elim (cases_Bool (p x)) [
-      | inl t ↦ last_all P p (Some x) xs l (All-tail P x xs all)
-          (λ m s. subst P (same_Some x m s) (All-head P x xs all)) (rw t at e)
-      | inr f ↦ last_all P p o xs l (All-tail P x xs all) from (rw f at e)
-    ]
-
-none_filter : {A : Type 0} (p : A → Bool) (xs : List A) → list_any p xs ≡ false → filter p xs ≡ []
-none_filter p [] h = refl
-none_filter p (x ∷ xs) h = let both = or_parts (p x) (list_any p xs) h in
-    rw both.0 (none_filter p xs both.1)
+    λ k. record { service = sym in'.service k; serial = x.serial; country = sym in'.country k }
 
 latest_some : (is : List Issuance) (x : Id) (o : Option Issuance) → last_issuance_of is x ≡ o
     → is_issued is x ≡ true → (l : Issuance) × (last_issuance_of is x ≡ Some l)
@@ -216,14 +191,6 @@ pub free_pick : (h : List Entry) (t : Terms) → IsLegal h t → (r : Range) (x 
 free_pick h t legal r x day le lies free = pick_free (issues_of h) r x day t.interval
     (sound h t legal).days lies free
 
-none_all : {A : Type 0} (p : A → Bool) (xs : List A) → find p xs ≡ None → All (λ x. p x ≡ false) xs
-none_all p [] e = All-nil (λ x. p x ≡ false)
-none_all p (x ∷ xs) e =
-    elim (cases_Bool (p x)) [
-      | inl t ↦ absurd (none-some x (sym (rw t at e)))
-      | inr f ↦ All-cons (λ y. p y ≡ false) x xs f (none_all p xs (rw f at e))
-    ]
-
 none_drawn : (is : List Issuance) (day : ℕ) (rs : List Range) (o : Option Range)
     → outcome_of_pick is day rs o ≡ NoneFree → o ≡ None
 none_drawn is day [] None e = refl
@@ -245,7 +212,7 @@ none_free h t legal customer service country day le is =
     → ¬ (IsTrue (is_free (issues_of h) x day t.interval)) in
     All-weaker P Q (λ r f x lies free. both_ways (has_free_pick (issues_of h) day t.interval r) f
     (free_pick h t legal r x day le lies free)) (ranges_open h customer service country)
-    (none_all (has_free_pick (issues_of h) day t.interval) (ranges_open h customer service country)
+    (none_kept (has_free_pick (issues_of h) day t.interval) (ranges_open h customer service country)
     (none_drawn (issues_of h) day (ranges_open h customer service country) _ is))
 
 -- The same for a result that was returned.

@@ -13,6 +13,7 @@ pub mod Spaced
 pub mod Own
 pub mod Free
 pub mod Marks
+pub mod Carrying
 pub mod Withdrawn
 pub mod Rows
 pub mod Taking

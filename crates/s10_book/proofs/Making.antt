@@ -6,12 +6,12 @@ use Rattle.s10_history.specs.declared.entry.Entry.{Entry}
 use Rattle.s10_history.specs.declared.issuance.Issuance.{Issuance}
 use Rattle.s10_history.specs.Issues.{issues_at, carried_by}
 use Rattle.s10_book.proofs.Carried.{made_by}
-use Rattle.s10_book.proofs.Determined.{length-mapped}
+use Rattle.std.proofs.lemmas.List.{length-map}
 use Rattle.s10_book.proofs.Legal.{element}
 
 pub length-issues_at : (arrival : ℕ) (e : Entry) → length (issues_at arrival e)
     ≡ length (carried_by e.outcome)
-length-issues_at arrival e = length-mapped (made_by e arrival) (carried_by e.outcome)
+length-issues_at arrival e = length-map (carried_by e.outcome) (made_by e arrival)
 
 -- One more issuance after those so far.
 pub issues_more : (old now new xs : List Issuance) (i : ℕ) (o : Option Issuance) → i < length xs

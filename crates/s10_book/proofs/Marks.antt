@@ -9,6 +9,7 @@ use Rattle.std.specs.List.{list_any, range_with_len}
 use Rattle.std.proofs.lemmas.Bool.{both_ways, true≢false, false≢true, cases_Bool, cases_eq}
 use Rattle.std.proofs.lemmas.Bool.{cases_order, eq-eqb, ne_eqb, not-false, not_from_true, and_parts}
 use Rattle.std.proofs.lemmas.Bool.{and_cases, and_left, and_right, or_left, or_right, or_from}
+use Rattle.std.proofs.lemmas.Bool.{false_from_ne_true}
 use Rattle.std.proofs.lemmas.Option.{none-some, same_Some, slice_get-get_or}
 use Rattle.std.proofs.lemmas.List.Folds.{list_any-append, list_any_none, list_any_at}
 use Rattle.std.proofs.lemmas.List.Elements.{All-nil, All-push, All-head, All-tail, All-weaker}
@@ -29,13 +30,14 @@ use Rattle.s10_history.specs.Issues.{issues_of, carried_by, is_of, is_issued}
 use Rattle.s10_history.specs.Issues.{serial_issued_earliest, serials, pick_of, id_at, serial_after}
 use Rattle.s10_history.specs.Issues.{pick_after}
 use Rattle.s10_book.specs.Rules.{IsLegal, MayFollow}
-use Rattle.s10_history.proofs.Push.{ranges_from-push, issues_from-push}
+use Rattle.s10_history.proofs.Push.{ranges_from-push, issues_from-push, same_issues}
 use Rattle.s10_book.proofs.Legal.{legal_induction}
 use Rattle.s10_book.proofs.Apart.{Apart, apart, new_apart}
 use Rattle.s10_book.proofs.Spaced.{id_same}
 use Rattle.s10_book.proofs.Own.{lies_at, new_ordered, lies_picked}
 use Rattle.s10_book.proofs.Carried.{made_by, InTurn, IsPicked, carried_call, after_call}
 use Rattle.s10_book.proofs.Free.{id_equal, id_within}
+use Rattle.s10_history.proofs.Voided.{or_none}
 
 -- The issued serials of a range, in the order of their last issuances.
 abbrev pub lasts : Range → List Issuance → List ℕ
@@ -74,11 +76,7 @@ issued_push is y x = list_any-append (is_of x) is (y ∷ [])
 issued_same : (is : List Issuance) (y : Issuance) (x : Id) → is_of x y ≡ false
     → is_issued (is ++ y ∷ []) x ≡ is_issued is x
 issued_same is y x no' = issued_push is y x ∙ ap (λ b. is_issued is x || (b || false)) no'
-    ∙ or_no (is_issued is x)
-  where
-    or_no : (b : Bool) → (b || (false || false)) ≡ b
-    or_no true = refl
-    or_no false = refl
+    ∙ or_none (is_issued is x) false refl
 
 issued_now : (is : List Issuance) (y : Issuance) (x : Id) → is_of x y ≡ true
     → is_issued (is ++ y ∷ []) x ≡ true
@@ -204,15 +202,9 @@ issued_lasts r s (i ∷ is) ls = issued_step (lies_in r i.id && not (is_issued i
         elim (cases_eq i.id.serial s) [
           | inl e ↦ id_same i.id (id_at r s) (serial_same r i.id (id_at r s) in' ls e)
               ∙ sym (eq-eqb i.id.serial s e)
-          | inr ne ↦ false_of (λ (same : is_of (id_at r s) i ≡ true). ne
+          | inr ne ↦ false_from_ne_true (is_of (id_at r s) i) (λ same. ne
               (ap (λ (x : Id). x.serial) (id_equal i.id (id_at r s) same)))
               ∙ sym (ne_eqb i.id.serial s ne)
-        ]
-      where
-        false_of : (is_of (id_at r s) i ≡ true → ⊥) → is_of (id_at r s) i ≡ false
-        false_of no' = elim (cases_Bool (is_of (id_at r s) i)) [
-          | inl t ↦ absurd (no' t)
-          | inr f ↦ f
         ]
 
     gone : (lies_in r i.id && not (is_issued is i.id)) ≡ false → is_of (id_at r s) i ≡ true
@@ -295,7 +287,7 @@ pick_choice first o f m (inl e) = ap (λ g. unwrap_or (option_or g o) first) e
 pick_choice first o f m (inr e) = ap (λ g. unwrap_or (option_or g o) first) e.0
     ∙ ap (λ g. unwrap_or g first) e.1
 
-at_serial : (r : Range) (s : ℕ) → r.first ≤ s → s < r.first + (r.last + 1 - r.first)
+pub at_serial : (r : Range) (s : ℕ) → r.first ≤ s → s < r.first + (r.last + 1 - r.first)
     → lies_in r (id_at r s) ≡ true
 at_serial r s le lt = lies_at r s (record { low = le; high = omega arith })
 
@@ -533,7 +525,7 @@ covered h t legal = legal_induction (λ g. All (IsCovered g) (issues_of g)) h t 
     (covered_picked g t e.request.customer e.day t.interval is c legal_g picked))))
 
 -- A new range has no issuance.
-none_issued : (h : List Entry) (t : Terms) (e : Entry) (r : Range) (num : ℕ) → IsLegal h t
+pub none_issued : (h : List Entry) (t : Terms) (e : Entry) (r : Range) (num : ℕ) → IsLegal h t
     → MayFollow h t e → range_of_grant num e.request.body e.outcome ≡ Some r
     → All (λ i. lies_in r i.id ≡ false) (issues_of h)
 none_issued h t e r num legal may made =
@@ -549,12 +541,8 @@ none_issued h t e r num legal may made =
     out x parted (inr f) c = f
     out x parted (inl t') c =
         absurd (both_ways _ (list_any_none (λ s. lies_in s x) (ranges_of h)
-        (λ k d lt. false_of (lies_in (get_or (ranges_of h) k d) x) (λ old. parted k d lt x old t')))
-        c)
-      where
-        false_of : (b : Bool) → (b ≡ true → ⊥) → b ≡ false
-        false_of true no' = absurd (no' refl)
-        false_of false no' = refl
+        (λ k d lt. false_from_ne_true (lies_in (get_or (ranges_of h) k d) x)
+        (λ old. parted k d lt x old t'))) c)
 
 -- The call that creates a range issues no identifier.
 carries_none : (num : ℕ) (b : Body) (o : Outcome) (r : Range) → range_of_grant num b o ≡ Some r
@@ -630,9 +618,7 @@ turns_made h t e r num legal may made =
     let order : r.first ≤ r.last = new_ordered h e.request.customer e.day t.interval num
     e.request.body e.outcome r may.right made in
     let none : issues_of (h ++ e ∷ []) ≡ issues_of h =
-    issues_from-push 1 h e
-    ∙ ap (λ (l : List (ℕ × Id)). issues_of h ++ map (made_by e (1 + length h)) l)
-    (carries_none num e.request.body e.outcome r made) ∙ append-nil (issues_of h) in
+    same_issues h e (carries_none num e.request.body e.outcome r made) in
     let P : List Issuance → Type 0 = λ l. Turns r l r.first in
     subst P (sym none) (turns_new r (issues_of h) order (none_issued h t e r num legal may made))
 

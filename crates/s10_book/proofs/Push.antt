@@ -1,9 +1,9 @@
 -- One more call at the end of a legal history.
-use Rattle.std.proofs.Common.{◌≡◌, ℕ, zero, suc, ◌≤◌, Bool, true, false, cond, eqb, List, [], ◌∷◌}
+use Rattle.std.proofs.Common.{◌≡◌, ℕ, zero, suc, ◌≤◌, Bool, false, eqb, List, [], ◌∷◌}
 use Rattle.std.proofs.Common.{◌++◌, Some, None, refl, sym, ap, ◌⊎◌, inl, inr, arith, get_or, take}
 use Rattle.std.proofs.Common.{length-append}
 use Rattle.std.specs.Prelude.{find, fold, All, AllPairs, IsTrue, slice_get}
-use Rattle.std.proofs.lemmas.Bool.{both_ways, eqb-true, and_parts, eq-eqb, and_from}
+use Rattle.std.proofs.lemmas.Bool.{both_ways, eqb-true, and_parts, eq-eqb, and_from, cases_Bool}
 use Rattle.std.proofs.lemmas.Option.{none-some, same_Some}
 use Rattle.std.proofs.lemmas.List.Quantifiers.{all_pairs_push}
 use Rattle.std.proofs.lemmas.List.Elements.{All-cons, All-nil}
@@ -29,16 +29,15 @@ days_below a (x ∷ xs) pairs from =
           below.1,
     )
 
-none_at : (p : Entry → Bool) (x : Entry) (xs : List Entry) (b : Bool) → p x ≡ b
-    → cond b (Some x) (find p xs) ≡ None → (find p xs ≡ None → All (λ e. p e ≡ false) xs)
-    → All (λ e. p e ≡ false) (x ∷ xs)
-none_at p x xs true e none rest = absurd (none-some x (sym none))
-none_at p x xs false e none rest = All-cons (λ y. p y ≡ false) x xs e (rest none)
-
 -- If nothing is found, nothing passes.
-pub none_kept : (p : Entry → Bool) (xs : List Entry) → find p xs ≡ None → All (λ e. p e ≡ false) xs
-none_kept p [] none = All-nil (λ e. p e ≡ false)
-none_kept p (x ∷ xs) none = none_at p x xs (p x) refl none (none_kept p xs)
+pub none_kept : {A : Type 0} (p : A → Bool) (xs : List A) → find p xs ≡ None
+    → All (λ x. p x ≡ false) xs
+none_kept p [] none = All-nil (λ x. p x ≡ false)
+none_kept p (x ∷ xs) none =
+    elim (cases_Bool (p x)) [
+      | inl t ↦ absurd (none-some x (sym (rw t at none)))
+      | inr f ↦ All-cons (λ y. p y ≡ false) x xs f (none_kept p xs (rw f at none))
+    ]
 
 -- Whether two calls have the same key does not depend on their order.
 keys_turned : (d e : Entry) → has_key e.request.customer e.request.number d ≡ false
@@ -53,8 +52,9 @@ keys_turned d e other same =
     (eq-eqb d.request.number e.request.number
     (sym (eqb-true e.request.number d.request.number both.1))))
 
--- The call at an index is one of those before the last, or the last.
-place_cases : (h : List Entry) (e : Entry) (k : ℕ) (x : Entry) → slice_get (h ++ e ∷ []) k ≡ Some x
+-- The element at an index is one of those before the last, or the last.
+pub place_cases : {A : Type 0} (h : List A) (e : A) (k : ℕ) (x : A)
+    → slice_get (h ++ e ∷ []) k ≡ Some x
     → ((slice_get h k ≡ Some x) × (take k (h ++ e ∷ []) ≡ take k h))
     ⊎ ((x ≡ e) × (take k (h ++ e ∷ []) ≡ h))
 place_cases [] e zero x is = inr (sym (same_Some e x is), refl)

@@ -25,6 +25,7 @@ use Rattle.s10_book.proofs.Picking.{picks}
 use Rattle.s10_book.proofs.Alike.{Alike, alike_itself, alike_push, pick_alike, find_same}
 use Rattle.s10_book.proofs.Alike.{free_alike}
 use Rattle.s10_book.proofs.Taking.{drawn_on, row_of, no_picks}
+use Rattle.std.proofs.Math.Seq.{take-append_seam}
 
 -- The issuances of single Draws are alike to any other issuances of their identifiers on their day.
 single_issues : (customer : ℕ) (s c : ℕ × ℕ) (day : ℕ) (made : ℕ × Id → Issuance)
@@ -106,17 +107,13 @@ call_after : (g : List Entry) (e : Entry) (es : List Entry) → slice_get (g ++ 
 call_after [] e es = refl
 call_after (x ∷ g) e es = call_after g e es
 
-calls_before : (g es : List Entry) → take (length g) (g ++ es) ≡ g
-calls_before [] es = refl
-calls_before (x ∷ g) es = ap (λ (l : List Entry). x ∷ l) (calls_before g es)
-
 -- The outcome of a Done Draw in a legal history is that of the rules.
 draw_told : (g : List Entry) (e : Entry) (es : List Entry) (t : Terms) (customer : ℕ) (s c : ℕ × ℕ)
     (day : ℕ) (x : Id) → IsLegal (g ++ e ∷ es) t → without_number e ≡ draw_done customer s c day x
     → Drawn day x ≡ draw_answer g customer s c day t.interval
 draw_told g e es t customer s c day x legal is =
     sym (ap (λ (f : Entry). f.outcome) is) ∙ legal.right (length g) e (call_after g e es)
-    ∙ ap (λ (l : List Entry). answer_of l e.request e.day t.interval) (calls_before g (e ∷ es))
+    ∙ ap (λ (l : List Entry). answer_of l e.request e.day t.interval) (take-append_seam g (e ∷ es))
     ∙ ap (λ (f : Entry). body_answer g f.request.customer f.request.body f.day t.interval) is
 
 singles_row : (t : Terms) (customer : ℕ) (s c : ℕ × ℕ) (day : ℕ) (es : List Entry) (ids : List Id)

@@ -1,12 +1,10 @@
 -- What a withdrawn range gives, and what its withdrawal leaves unchanged.
-use Rattle.std.proofs.Common.{◌≡◌, ℕ, zero, suc, ◌+◌, Bool, true, false, not, ◌||◌, cond, eqb, ltb}
-use Rattle.std.proofs.Common.{List, [], ◌∷◌, ◌++◌, map, length, Option, Some, None, refl, sym, ap}
-use Rattle.std.proofs.Common.{ap₂, ◌∙◌, arith, subst, append-nil}
-use Rattle.std.specs.Prelude.{find, All, Contains, IsTrue, option_to_list}
+use Rattle.std.proofs.Common.{◌≡◌, ℕ, ◌+◌, Bool, true, false, not, ◌||◌, cond, eqb, ltb}
+use Rattle.std.proofs.Common.{List, [], ◌∷◌, ◌++◌, length, Option, Some, refl, sym, ap}
+use Rattle.std.proofs.Common.{ap₂, ◌∙◌, subst}
+use Rattle.std.specs.Prelude.{find, All, Contains, IsTrue}
 use Rattle.std.specs.List.{list_any}
-use Rattle.std.specs.Option.{option_map, unwrap_or}
-use Rattle.std.proofs.lemmas.Bool.{both_ways, and_parts, or_left}
-use Rattle.std.proofs.lemmas.List.{drop_all}
+use Rattle.std.proofs.lemmas.Bool.{both_ways, and_parts, or_left, not-true}
 use Rattle.std.proofs.lemmas.List.Elements.{All-nil, All-cons, All-contains, filter_passes}
 use Rattle.std.proofs.lemmas.List.Folds.{list_any-append}
 use Rattle.s10_core.specs.declared.id.Id.{Id}
@@ -24,16 +22,17 @@ use Rattle.s10_history.specs.declared.issuance.Issuance.{Issuance}
 use Rattle.s10_history.specs.Settings.{Terms}
 use Rattle.s10_history.specs.History.{ranges_of, range_of_grant, lies_in, is_own, overlaps}
 use Rattle.s10_history.specs.History.{withdraws, is_closed, is_held, is_open, ranges_open}
-use Rattle.s10_history.specs.Issues.{issues_of, carried_by, last_issuance_of, last_issue_of, voids}
-use Rattle.s10_history.specs.Issues.{voids_by, voided_after, id_at, pick_of}
+use Rattle.s10_history.specs.Issues.{issues_of, carried_by, last_issue_of}
+use Rattle.s10_history.specs.Issues.{voids_by, id_at, pick_of}
 use Rattle.s10_book.specs.Rules.{IsLegal, MayFollow, body_answer, has_free_pick, grant_answer}
 use Rattle.s10_book.specs.Rules.{void_answer, void_issue, query_answer, status_of_issue}
 use Rattle.s10_history.proofs.Numbering.{Contains-find}
-use Rattle.s10_history.proofs.Push.{ranges_from-push, issues_from-push}
+use Rattle.s10_history.proofs.Push.{same_ranges}
 use Rattle.s10_book.proofs.Apart.{apart}
 use Rattle.s10_book.proofs.Carried.{made_by, InTurn, IsPicked, picked_from, carried}
 use Rattle.s10_book.proofs.Own.{lies_picked}
 use Rattle.s10_book.proofs.Marks.{one_range}
+use Rattle.s10_history.proofs.Voided.{same_last_issue}
 
 -- A closed range stays closed.
 pub stays_closed : (h : List Entry) (e : Entry) (num : ℕ) → IsTrue (is_closed h num)
@@ -48,10 +47,6 @@ record IsPickedOpen (g : List Entry) (customer day n : ℕ) (is : List Issuance)
   pub picked : IsPicked (ranges_of g) customer day n is c
   pub not_closed : is_closed g picked.range.num ≡ false
 
-unset : (b : Bool) → not b ≡ true → b ≡ false
-unset true e = sym e
-unset false e = refl
-
 open_picked : (g : List Entry) (customer day n : ℕ) (s c : ℕ × ℕ) (js : List Issuance) (r : Range)
     → find (has_free_pick js day n) (ranges_open g customer s c) ≡ Some r
     → IsPickedOpen g customer day n js (day, id_at r (pick_of js r))
@@ -65,7 +60,7 @@ open_picked g customer day n s c js r found =
     record {
       picked = picked_from g (ranges_of g) customer day n s c js r found;
       not_closed =
-          unset (is_closed g r.num) (and_parts (is_held customer s c r) (not (is_closed g r.num))
+          not-true (is_closed g r.num) (and_parts (is_held customer s c r) (not (is_closed g r.num))
           passes).1;
     }
 
@@ -100,56 +95,15 @@ none_withdrawn h t e legal may r there closed =
         t.interval is c legal from.picked) lies in
         ap (λ (s : Range). is_closed h s.num) (sym same) ∙ from.not_closed
 
-same_ranges : (h : List Entry) (e : Entry) (num : ℕ) → e.request.body ≡ Withdraw num
+withdrawn_ranges : (h : List Entry) (e : Entry) (num : ℕ) → e.request.body ≡ Withdraw num
     → e.outcome ≡ Withdrawn → ranges_of (h ++ e ∷ []) ≡ ranges_of h
-same_ranges h e num asks done =
-    ranges_from-push 1 h e ∙ ap₂ (λ (b : Body) (o : Outcome). ranges_of h ++ option_to_list
-    (range_of_grant (1 + length (ranges_of h)) b o)) asks done ∙ append-nil (ranges_of h)
-
-same_issues : (h : List Entry) (e : Entry) → e.outcome ≡ Withdrawn → issues_of (h ++ e ∷ [])
-    ≡ issues_of h
-same_issues h e done =
-    issues_from-push 1 h e ∙ ap (λ (o : Outcome). issues_of h ++ map (made_by e (1 + length h))
-    (carried_by o)) done ∙ append-nil (issues_of h)
-
-or_none : (b c : Bool) → c ≡ false → (b || (c || false)) ≡ b
-or_none true c e = refl
-or_none false true e = e
-or_none false false e = refl
-
-same_voided : (arrival : ℕ) (h : List Entry) (e : Entry) (x : Id) → voids x e ≡ false
-    → voided_after arrival (h ++ e ∷ []) x ≡ voided_after arrival h x
-same_voided zero h e x none = list_any-append (voids x) h (e ∷ []) ∙ or_none (list_any (voids x) h)
-    (voids x e) none
-same_voided (suc n) [] e x none = ap (list_any (voids x)) (drop_all n [] (omega arith))
-same_voided (suc n) (d ∷ h) e x none = same_voided n h e x none
-
-abbrev told : List Entry → Id → Option Issuance → Option Issue
-told h x o =
-    option_map (λ i. record {
-      day = i.day;
-      voided = unwrap_or (option_map (λ j. voided_after j.arrival h x) o) false;
-      customer =
-          i.customer;
-      number = i.number;
-    }) o
-
-told_same : (h : List Entry) (e : Entry) (x : Id) (o : Option Issuance) → voids x e ≡ false
-    → told (h ++ e ∷ []) x o ≡ told h x o
-told_same h e x None none = refl
-told_same h e x (Some i) none =
-    ap (λ (b : Bool). Some (record {
-      day = i.day;
-      voided = b;
-      customer = i.customer;
-      number = i.number;
-    })) (same_voided i.arrival h e x none)
+withdrawn_ranges h e num asks done =
+    same_ranges h e (ap₂ (λ (b : Body) (o : Outcome). range_of_grant (1 + length (ranges_of h)) b o)
+    asks done)
 
 same_last : (h : List Entry) (e : Entry) (num : ℕ) (x : Id) → e.request.body ≡ Withdraw num
     → e.outcome ≡ Withdrawn → last_issue_of (h ++ e ∷ []) x ≡ last_issue_of h x
-same_last h e num x asks done =
-    ap (λ (is : List Issuance). told (h ++ e ∷ []) x (last_issuance_of is x)) (same_issues h e done)
-    ∙ told_same h e x (last_issuance_of (issues_of h) x)
+same_last h e num x asks done = same_last_issue h e x (ap carried_by done)
     (ap₂ (λ (b : Body) (o : Outcome). voids_by x b o) asks done)
 
 -- A withdrawal changes no outcome of a Grant.
@@ -163,7 +117,7 @@ same_grants h e num asks done customer holder service country first last =
     (cond (eqb holder 0 || ltb last first) BadGrant
     (cond (list_any (overlaps service country first last) rs) Overlap
     (Granted (length rs + 1)))))
-    (same_ranges h e num asks done)
+    (withdrawn_ranges h e num asks done)
 
 -- A withdrawal changes no outcome of a Void.
 pub same_voids : (h : List Entry) (e : Entry) (num : ℕ) → e.request.body ≡ Withdraw num
@@ -171,7 +125,7 @@ pub same_voids : (h : List Entry) (e : Entry) (num : ℕ) → e.request.body ≡
     ≡ void_answer h customer x
 same_voids h e num asks done customer x =
     ap₂ (λ (rs : List Range) (o : Option Issue). cond (list_any (is_own customer x) rs)
-    (void_issue o) NotYours) (same_ranges h e num asks done) (same_last h e num x asks done)
+    (void_issue o) NotYours) (withdrawn_ranges h e num asks done) (same_last h e num x asks done)
 
 -- A withdrawal changes no outcome of a Query.
 pub same_queries : (h : List Entry) (e : Entry) (num : ℕ) → e.request.body ≡ Withdraw num
@@ -182,4 +136,4 @@ same_queries h e num asks done customer x =
     (λ (rs : List Range) (o : Option Issue).
     cond (eqb customer 0 || list_any (is_own customer x) rs)
     (Told (cond (list_any (λ r. lies_in r x) rs) (status_of_issue o) Unknown)) NotYours)
-    (same_ranges h e num asks done) (same_last h e num x asks done)
+    (withdrawn_ranges h e num asks done) (same_last h e num x asks done)

@@ -1,5 +1,5 @@
 -- Serials of a range, counted from its first to its last.
-use Rattle.std.proofs.Common.{◌≡◌, ℕ, zero, suc, ◌+◌, ◌-◌, ◌<◌, ◌≤◌, Bool, true, false, cond, ◌||◌}
+use Rattle.std.proofs.Common.{◌≡◌, ℕ, suc, ◌+◌, ◌-◌, ◌<◌, ◌≤◌, Bool, true, false, cond, ◌||◌}
 use Rattle.std.proofs.Common.{List, [], ◌∷◌, Option, Some, None, refl, sym, ap, ◌∙◌, arith}
 use Rattle.std.specs.Prelude.{max, filter, count_by, is_some}
 use Rattle.std.specs.List.{list_any, last_or, range_with_len}
@@ -137,12 +137,8 @@ UsedBelow-all h r day interval low u lt below = record {
   free = Counted-all _ r low u.free lt below.free;
 }
 
-same_usage : (a b : Usage) → a.used ≡ b.used → a.voided ≡ b.voided → a.free ≡ b.free → a ≡ b
-same_usage a b e0 e1 e2 =
-    let f0 : ℕ → Usage = λ n. record { used = n; voided = a.voided; free = a.free } in
-    let f1 : ℕ → Usage = λ n. record { used = b.used; voided = n; free = a.free } in
-    let f2 : ℕ → Usage = λ n. record { used = b.used; voided = b.voided; free = n } in
-    ap f0 e0 ∙ ap f1 e1 ∙ ap f2 e2
+pub same_usage : (a b : Usage) → a.used ≡ b.used → a.voided ≡ b.voided → a.free ≡ b.free → a ≡ b
+same_usage a b e0 e1 e2 = λ k. record { used = e0 k; voided = e1 k; free = e2 k }
 
 pub usage_is : (h l : List Entry) (is : List Issuance) (r : Range) (day later n interval : ℕ)
     (u : Usage) → l ≡ h → is ≡ issues_of h → later ≡ max (day_of h) day → n ≡ interval

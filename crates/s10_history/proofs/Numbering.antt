@@ -1,8 +1,8 @@
 -- Ranges are numbered in order.
 use Rattle.std.proofs.Common.{Ok, Result, ◌≡◌, ℕ, suc, ◌+◌, ◌<◌, ◌≤◌, Bool, true, false, ◌&&◌, cond}
 use Rattle.std.proofs.Common.{ltb, List, [], ◌∷◌, Option, Some, None, refl, sym, ap, ◌∙◌, ◌⊎◌}
-use Rattle.std.proofs.Common.{arith, subst, inl, inr}
-use Rattle.std.specs.Prelude.{find, filter, Contains, IfSome}
+use Rattle.std.proofs.Common.{arith, subst, inl, inr, length, zero}
+use Rattle.std.specs.Prelude.{find, filter, slice_get, Contains, IfSome}
 use Rattle.std.proofs.lemmas.Bool.{lt-ltb, le-ltb, ltb-true, and_parts, and_left}
 use Rattle.std.proofs.lemmas.Option.{none-some, same_Some}
 use Rattle.s10_wire.specs.declared.body.Body.{Body}
@@ -137,3 +137,9 @@ pub Contains-answered : {A E : Type 0} (p : A → Bool) (xs : List A) (result : 
     → Contains xs x
 Contains-answered p xs result found x answer is some =
     Contains-find p xs x (let same : find p xs ≡ found = cc in same ∙ some)
+
+-- An index without an element is past the end.
+pub past_end : {A : Type 0} (xs : List A) (k : ℕ) → slice_get xs k ≡ None → length xs ≤ k
+past_end [] k none = omega arith
+past_end (x ∷ xs) zero none = absurd (none-some x (sym none))
+past_end (x ∷ xs) (suc k) none = let le = past_end xs k none in omega (arith, le)

@@ -6,7 +6,7 @@ use Rattle.s10_history.specs.declared.entry.Entry.{Entry}
 use Rattle.s10_history.specs.declared.range.Range.{Range}
 use Rattle.s10_history.specs.declared.issuance.Issuance.{Issuance}
 use Rattle.s10_history.specs.History.{ranges_from, ranges_of, range_of_grant, then_ranges}
-use Rattle.s10_history.specs.Issues.{issues_from, issues_of, issues_at}
+use Rattle.s10_history.specs.Issues.{issues_from, issues_of, issues_at, carried_by}
 
 granted : ℕ → Entry → Option Range
 granted n e = range_of_grant n e.request.body e.outcome
@@ -53,6 +53,17 @@ issues_from-push n (x ∷ xs) e =
     ∙ ap (λ m. issues_from (n + 1) xs ++ issues_at m e) same)
     ∙ sym (append_assoc (issues_at n x) (issues_from (n + 1) xs)
     (issues_at (n + length (x ∷ xs)) e))
+
+-- A call that carries no identifier leaves the issuances.
+pub same_issues : (h : List Entry) (e : Entry) → carried_by e.outcome ≡ [] → issues_of (h ++ e ∷ [])
+    ≡ issues_of h
+same_issues h e none = issues_from-push 1 h e ∙ rw none (append-nil (issues_of h))
+
+-- A call that adds no range leaves the ranges.
+pub same_ranges : (h : List Entry) (e : Entry) → range_of_grant (1 + length (ranges_of h))
+    e.request.body e.outcome ≡ None → ranges_of (h ++ e ∷ []) ≡ ranges_of h
+same_ranges h e none = ranges_from-push 1 h e
+    ∙ ap (λ (o : Option Range). ranges_of h ++ option_to_list o) none ∙ append-nil (ranges_of h)
 
 then_few : (o : Option Range) (xs : List Entry) (n : ℕ) → length (ranges_from n xs) ≤ length xs
     → length (ranges_from (n + 1) xs) ≤ length xs

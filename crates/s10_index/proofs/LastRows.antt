@@ -27,10 +27,11 @@ use Rattle.s10_ranges.specs.Laps.{mark_of}
 use Rattle.s10_rows.specs.declared.range_row.RangeRow.{RangeRow}
 use Rattle.s10_rows.specs.declared.serial_row.SerialRow.{SerialRow}
 use Rattle.s10_rows.specs.Tables.{range_row, serial_row}
-use Rattle.s10_replay.proofs.LastIssues.{none_filter}
+use Rattle.s10_history.proofs.Issued.{none_filter, last_or-more}
 use Rattle.s10_replay.proofs.SerialRows.{last_passes}
 use Rattle.s10_index.specs.LastIssues.{issue_in_history}
 use Rattle.s10_index.specs.RowsFrom.{range_rows_from, last_rows, serial_rows_from}
+use Rattle.s10_replay.proofs.RowsAfterCall.{row_in}
 
 -- The issuances of a history, split at a call and at an issuance of it.
 
@@ -94,18 +95,10 @@ parted_at h place e at here =
 
 -- The last issue of an identifier.
 
-abbrev row_in : List Entry → Issuance → SerialRow
-row_in h i = serial_row (voided_after i.arrival h i.id) i
-
-last_kept : (p : Issuance → Bool) (o : Option Issuance) (is : List Issuance) (l : Issuance)
-    → last_or None is ≡ Some l → last_or o is ≡ Some l
-last_kept p o [] l e = absurd (none-some l e)
-last_kept p o (x ∷ xs) l e = e
-
 -- The last of what follows is the last of all.
 last_after : (p : Issuance → Bool) (o : Option Issuance) (front is : List Issuance) (l : Issuance)
     → last_or None (filter p is) ≡ Some l → last_or o (filter p (front ++ is)) ≡ Some l
-last_after p o [] is l e = last_kept p o (filter p is) l e
+last_after p o [] is l e = last_or-more o (filter p is) l e
 last_after p o (x ∷ front) is l e = at (p x) refl (last_after p (Some x) front is l e)
     (last_after p o front is l e)
   where
@@ -153,7 +146,7 @@ issued_again h t before behind i legal split again =
     let last = last_passes (R i) i.id behind l.0 later l.1 in (
       l.0,
       last_from h before behind i l.0 split
-          (last_kept (is_of i.id) (Some i) (filter (is_of i.id) behind) l.0 l.1),
+          (last_or-more (Some i) (filter (is_of i.id) behind) l.0 l.1),
       last.0 (sym last.1),
     )
 

@@ -1,16 +1,11 @@
 -- The last issue of an identifier after one more call.
-use Rattle.std.proofs.Common.{◌≡◌, ◌∙◌, ℕ, zero, suc, ◌+◌, ◌≤◌, Bool, true, false, cond, ◌||◌, List}
-use Rattle.std.proofs.Common.{[], ◌∷◌, ◌++◌, map, Option, Some, None, length, refl, sym, ap, ap₂}
-use Rattle.std.proofs.Common.{subst, arith, append-nil, length-append}
-use Rattle.std.specs.Prelude.{filter, All, slice_get}
-use Rattle.std.specs.List.{list_any, last_or}
+use Rattle.std.proofs.Common.{◌≡◌, ◌∙◌, ℕ, ◌+◌, ◌≤◌, Bool, true, false, cond, List}
+use Rattle.std.proofs.Common.{[], ◌∷◌, ◌++◌, Option, Some, None, length, refl, sym, ap, ap₂}
+use Rattle.std.specs.Prelude.{slice_get}
 use Rattle.std.specs.Option.{option_map, unwrap_or}
-use Rattle.std.proofs.lemmas.Bool.{or_left, or_right, eqb-true, eq-eqb, and_parts, and_from}
+use Rattle.std.proofs.lemmas.Bool.{eqb-true, eq-eqb, and_parts, and_from}
 use Rattle.std.proofs.lemmas.Bool.Decides.{same_from_decides}
-use Rattle.std.proofs.lemmas.Option.{none-some, same_Some}
-use Rattle.std.proofs.lemmas.List.{drop_all}
-use Rattle.std.proofs.lemmas.List.Folds.{list_any-append}
-use Rattle.std.proofs.lemmas.List.Elements.{All-head, All-tail}
+use Rattle.std.proofs.lemmas.Option.{none-some}
 use Rattle.s10_core.specs.declared.id.Id.{Id}
 use Rattle.s10_core.specs.Id.{IsId, same_id}
 use Rattle.s10_wire.specs.declared.body.Body.{Body}
@@ -24,8 +19,8 @@ use Rattle.s10_history.specs.Settings.{Terms}
 use Rattle.s10_book.specs.Rules.{IsLegal}
 use Rattle.s10_history.specs.Issues.{issues_of, issues_at, is_of, carried_by, voids, voids_by}
 use Rattle.s10_history.specs.Issues.{voided_after, last_issuance_of, last_issue_of}
-use Rattle.s10_history.proofs.Push.{issues_from-push}
-use Rattle.s10_history.proofs.Issued.{last_issuance_of-push}
+use Rattle.s10_history.proofs.Push.{same_issues}
+use Rattle.s10_history.proofs.Issued.{last_issuance_of-push, last_all}
 use Rattle.s10_book.proofs.Own.{IsOwned, owned}
 use Rattle.s10_book.proofs.Carried.{made_by}
 use Rattle.s10_book.proofs.Free.{id_equal}
@@ -33,8 +28,9 @@ use Rattle.s10_book.proofs.Spaced.{id_same}
 use Rattle.s10_core.specs.Pair.{pair_of}
 use Rattle.s10_core.proofs.Pairs.{one_pair}
 use Rattle.s10_index.specs.Keys.{same_id_key, id_key}
-use Rattle.s10_ranges.proofs.Carrying.{issues_upto, upto_next, carried_at}
+use Rattle.s10_book.proofs.Carrying.{issues_upto, upto_next, carried_at}
 use Rattle.s10_index.specs.LastIssues.{as_issue, issue_in_history, as_voided}
+use Rattle.s10_history.proofs.Voided.{same_voided, now_voided, none_after, same_last_issue}
 
 -- Keys.
 
@@ -50,10 +46,7 @@ keys_tell x y fit_x fit_y =
         let pair = one_pair x.service x.country y.service y.country fit_x.service fit_x.country
         fit_y.service fit_y.country (eqb-true _ _ both.0) in
         let serial : x.serial ≡ y.serial = eqb-true x.serial y.serial both.1 in
-        let f0 : ℕ × ℕ → Id = λ s. record { service = s; serial = x.serial; country = x.country } in
-        let f1 : ℕ → Id = λ n. record { service = y.service; serial = n; country = x.country } in
-        let f2 : ℕ × ℕ → Id = λ c. record { service = y.service; serial = y.serial; country = c } in
-        ap f0 pair.0 ∙ ap f1 serial ∙ ap f2 pair.1
+        λ k. record { service = pair.0 k; serial = serial k; country = pair.1 k }
 
     same_keys : x ≡ y → same_id_key (id_key x) (id_key y) ≡ true
     same_keys e = and_from _ _ (eq-eqb _ _ (ap (λ (z : Id). pair_of z.service z.country) e))
@@ -61,46 +54,10 @@ keys_tell x y fit_x fit_y =
 
 -- What is voided.
 
-or_none : (b c : Bool) → c ≡ false → (b || (c || false)) ≡ b
-or_none true c e = refl
-or_none false true e = e
-or_none false false e = refl
-
--- A call that voids nothing leaves what is voided.
-same_voided : (arrival : ℕ) (h : List Entry) (e : Entry) (x : Id) → voids x e ≡ false
-    → voided_after arrival (h ++ e ∷ []) x ≡ voided_after arrival h x
-same_voided zero h e x none = list_any-append (voids x) h (e ∷ []) ∙ or_none (list_any (voids x) h)
-    (voids x e) none
-same_voided (suc n) [] e x none = ap (list_any (voids x)) (drop_all n [] (omega arith))
-same_voided (suc n) (d ∷ h) e x none = same_voided n h e x none
-
--- A call that voids an identifier comes after each call before it.
-now_voided : (arrival : ℕ) (h : List Entry) (e : Entry) (x : Id) → arrival ≤ length h
-    → voids x e ≡ true → voided_after arrival (h ++ e ∷ []) x ≡ true
-now_voided zero h e x le does = list_any-append (voids x) h (e ∷ [])
-    ∙ or_right (list_any (voids x) h) (voids x e || false) (or_left (voids x e) false does)
-now_voided (suc n) [] e x le does = absurd (omega (arith, le))
-now_voided (suc n) (d ∷ h) e x le does = now_voided n h e x (omega (arith, le)) does
-
--- No call comes after the last one.
-none_after : (h : List Entry) (e : Entry) (x : Id) → voided_after (1 + length h) (h ++ e ∷ []) x
-    ≡ false
-none_after h e x =
-    ap (list_any (voids x)) (drop_all (1 + length h) (h ++ e ∷ [])
-    (omega (arith, length-append h (e ∷ []))))
-
 none_voided : (x : Id) (b : Body) (o : Outcome) → ((y : Id) → b ≡ Void y → o ≡ Voided → ⊥)
     → voids_by x b o ≡ false
 none_voided x (Void id) Voided other = absurd (other id refl refl)
 none_voided x b o other = refl
-
--- A call that carries no identifier leaves the issuances.
-same_issues : (h : List Entry) (e : Entry) → carried_by e.outcome ≡ [] → issues_of (h ++ e ∷ [])
-    ≡ issues_of h
-same_issues h e none =
-    issues_from-push 1 h e
-    ∙ ap (λ (l : List (ℕ × Id)). issues_of h ++ map (made_by e (1 + length h)) l) none
-    ∙ append-nil (issues_of h)
 
 -- The last issue.
 
@@ -137,12 +94,8 @@ told_before h e x no_void = told_same h e x (last_issuance_of (issues_of h) x)
 pub last_left : (h : List Entry) (e : Entry) (x : Id) → carried_by e.outcome ≡ []
     → ((y : Id) → e.request.body ≡ Void y → e.outcome ≡ Voided → ⊥)
     → last_issue_of (h ++ e ∷ []) x ≡ last_issue_of h x
-last_left h e x no_issue no_void =
-    last_told (h ++ e ∷ []) x
-    ∙ ap (λ (is : List Issuance). option_map (issue_in_history (h ++ e ∷ []) x)
-    (last_issuance_of is x)) (same_issues h e no_issue)
-    ∙ told_before h e x no_void
-    ∙ sym (last_told h x)
+last_left h e x no_issue no_void = same_last_issue h e x no_issue
+    (none_voided x e.request.body e.outcome no_void)
 
 -- No Void comes after an issuance of the last call.
 new_told : (h : List Entry) (e : Entry) (x : Id) (y : Issuance) (b : Bool) (o : Option Issuance)
@@ -172,21 +125,6 @@ told_upto h e x place i at =
     ∙ ap (λ (j : Issuance). cond (same_id j.id x) (Some (as_issue j false))
     (option_map (issue_in_history (h ++ e ∷ []) x) o)) found.2
 
--- What is true of each issuance is true of the last one.
-last_has : (P : Issuance → Type 0) (p : Issuance → Bool) (o : Option Issuance) (is : List Issuance)
-    (l : Issuance) → All P is → ((m : Issuance) → o ≡ Some m → P m) → last_or o (filter p is)
-    ≡ Some l → P l
-last_has P p o [] l all before last = before l last
-last_has P p o (i ∷ is) l all before last =
-    at (p i) refl (last_has P p (Some i) is l (All-tail P i is all)
-    (λ m same. subst P (same_Some i m same) (All-head P i is all)))
-    (last_has P p o is l (All-tail P i is all) before)
-  where
-    at : (b : Bool) → p i ≡ b → (last_or (Some i) (filter p is) ≡ Some l → P l)
-        → (last_or o (filter p is) ≡ Some l → P l) → P l
-    at true does here past = here (rw does at last)
-    at false fails here past = past (rw fails at last)
-
 void_or_not : (h : List Entry) (e : Entry) (x : Id) (b : Bool) (o : Option Issuance) → voids x e ≡ b
     → ((i : Issuance) → o ≡ Some i → i.arrival ≤ length h)
     → option_map (issue_in_history (h ++ e ∷ []) x) o
@@ -209,7 +147,7 @@ last_voided h t e x id legal asks done =
     ∙ ap (λ (is : List Issuance). option_map (issue_in_history (h ++ e ∷ []) x)
     (last_issuance_of is x)) (same_issues h e (ap carried_by done))
     ∙ void_or_not h e x (same_id id x) (last_issuance_of (issues_of h) x) is
-    (λ i last. (last_has (IsOwned h) (is_of x) None (issues_of h) i (owned h t legal)
+    (λ i last. (last_all (IsOwned h) (is_of x) None (issues_of h) i (owned h t legal)
     (λ m none. absurd (none-some m none)) last).1)
     ∙ ap (λ (o : Option Issue). cond (same_id id x) (option_map as_voided o) o)
     (sym (last_told h x))

@@ -7,7 +7,7 @@ use Rattle.s10_history.specs.Settings.{Terms}
 use Rattle.s10_rows.specs.declared.closed_row.ClosedRow.{ClosedRow}
 use Rattle.s10_rows.specs.declared.call_write.CallWrite.{CallWrite}
 use Rattle.s10_rows.specs.CallWrite.{Writes, row_written}
-use Rattle.s10_rows.specs.Replies.{reply_bytes}
+use Rattle.s10_wire.specs.Replies.{reply_bytes}
 use Rattle.s10_rows.specs.Tables.{tables_of, call_row, call_rows_from, call_rows, closing}
 use Rattle.s10_rows.specs.Tables.{closed_rows_from, closed_rows}
 use Rattle.s10_rows.specs.RowWrites.{MakesWrites}

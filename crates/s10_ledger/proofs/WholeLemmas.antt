@@ -19,7 +19,7 @@ use Rattle.s10_rows.specs.declared.open_fault.OpenFault.TheVariants.{NotALedger}
 use Rattle.s10_rows.specs.declared.open_fault.OpenFault.TheVariants.{Schema as OtherSchema, Damaged}
 use Rattle.s10_rows.specs.declared.open_fault.OpenFault.TheVariants.{NotEmpty, Memory, Store}
 use Rattle.s10_rows.specs.CallRow.{StoredCall}
-use Rattle.s10_rows.specs.Replies.{reply_bytes}
+use Rattle.s10_wire.specs.Replies.{reply_bytes}
 use Rattle.s10_rows.specs.Tables.{Tables, HaveSameRows, call_row, call_rows_from, call_rows}
 use Rattle.s10_replay.specs.RightRows.{IsRightRow, AreRight, kept_of, entry_of}
 use Rattle.s10_rows.specs.Selected.{IsCall}
@@ -35,8 +35,9 @@ use Rattle.s10_index.specs.CallIndex.{Indexes}
 use Rattle.s10_ledger.specs.AllRows.{IsFound}
 use Rattle.s10_ledger.specs.Ledger.{IsLedger, history_in}
 use Rattle.s10_ledger.proofs.HistoryLemmas.{history_is, calls_history}
-use Rattle.s10_replay.proofs.Replayed.{there_at, kept_length}
+use Rattle.s10_replay.proofs.Replayed.{kept_length}
 use Rattle.s10_replay.proofs.Compared.{right_calls}
+use Rattle.std.proofs.lemmas.Option.{slice_get-get_or}
 
 -- A right row is that of the call that it stands for.
 pub right_row : (t : Terms) (before : List Entry) (row : StoredCall) → IsRightRow t before row
@@ -84,7 +85,7 @@ legal_to t rows right some (suc n) few =
     subst (λ h. IsLegal h t) (sym one_more)
     (IsLegal-push (kept_of (take n rows)) t (entry_of row)
     (legal_to t rows right some n (omega arith))
-    (right n row (there_at rows n some (omega arith))).follows)
+    (right n row (slice_get-get_or rows n some (omega arith))).follows)
 
 -- The calls of right rows are a legal history.
 pub right_legal : (t : Terms) (rows : List StoredCall) → AreRight t rows → IsLegal (kept_of rows) t

@@ -1,6 +1,6 @@
 -- How a kept call changes the ranges that are held.
 use Rattle.std.proofs.Common.{append-nil, ◌≡◌, ◌∙◌, ℕ, zero, suc, ◌+◌, ◌-◌, ◌<◌, ◌≤◌, Bool, true}
-use Rattle.std.proofs.Common.{false, cond, List, [], ◌∷◌, ◌++◌, map, set, Option, Some, None}
+use Rattle.std.proofs.Common.{List, [], ◌∷◌, ◌++◌, map, set, Option, Some, None}
 use Rattle.std.proofs.Common.{length, get_or, refl, sym, ap, ap₂, subst, arith, inl, inr}
 use Rattle.std.specs.Prelude.{find, option_to_list, slice_get, Contains}
 use Rattle.std.proofs.lemmas.Bool.{and_parts, leb-true, and_from, cases_order, false_from_ne_true}
@@ -11,8 +11,7 @@ use Rattle.s10_core.specs.declared.id.Id.{Id}
 use Rattle.s10_wire.specs.declared.body.Body.{Body}
 use Rattle.s10_wire.specs.declared.body.Body.TheVariants.{Grant}
 use Rattle.s10_wire.specs.declared.outcome.Outcome.{Outcome}
-use Rattle.s10_wire.specs.declared.outcome.Outcome.TheVariants.{Granted, NotThePost, BadGrant}
-use Rattle.s10_wire.specs.declared.outcome.Outcome.TheVariants.{Overlap}
+use Rattle.s10_wire.specs.declared.outcome.Outcome.TheVariants.{Granted}
 use Rattle.s10_history.specs.declared.entry.Entry.{Entry}
 use Rattle.s10_history.specs.declared.range.Range.{Range}
 use Rattle.s10_history.specs.declared.issuance.Issuance.{Issuance}
@@ -25,7 +24,7 @@ use Rattle.s10_history.proofs.Push.{ranges_from-push, length-ranges_from}
 use Rattle.s10_book.proofs.Own.{new_ordered, lies_picked}
 use Rattle.s10_book.proofs.Carried.{made_by, IsPicked}
 use Rattle.s10_book.proofs.Marks.{picked_mark}
-use Rattle.s10_book.proofs.Apart.{none_pass, apart}
+use Rattle.s10_book.proofs.Apart.{none_pass, apart, granted_parts, granted_when}
 use Rattle.s10_ranges.specs.declared.mark.Mark.{Mark}
 use Rattle.s10_ranges.specs.declared.ranges.Ranges.{Ranges}
 use Rattle.s10_ranges.specs.declared.lap.Lap.TheVariants.{First}
@@ -35,7 +34,8 @@ use Rattle.s10_ranges.specs.Sound.{AreSound}
 use Rattle.s10_ranges.proofs.Found.{find_none, find_first}
 use Rattle.s10_ranges.proofs.Marked.{mark_at_issues}
 use Rattle.s10_ranges.proofs.Orders.{at_place}
-use Rattle.s10_ranges.proofs.Turning.{AtPicks, in_order, none_granted, mark_new}
+use Rattle.s10_book.proofs.Carrying.{AtPicks}
+use Rattle.s10_ranges.proofs.Turning.{in_order, none_granted, mark_new}
 use Rattle.s10_ranges.proofs.Turning.{mark_inside, mark_outside}
 
 -- A range that is found has the number of one of the list.
@@ -54,20 +54,6 @@ found_reaches s c n rs r found =
     let a = and_parts _ _ (found_passes (overlaps s c n n) rs r found) in
     let b = and_parts _ _ a.0 in
     leb-true n r.last b.1
-
-granted_parts : (b1 b2 b3 : Bool) (n m : ℕ)
-    → cond b1 NotThePost (cond b2 BadGrant (cond b3 Overlap (Granted n))) ≡ Granted m → n ≡ m
-granted_parts true b2 b3 n m e = cc
-granted_parts false true b3 n m e = cc
-granted_parts false false true n m e = cc
-granted_parts false false false n m e = cc
-
-granted_when : (b1 b2 b3 : Bool) (n m : ℕ)
-    → cond b1 NotThePost (cond b2 BadGrant (cond b3 Overlap (Granted n))) ≡ Granted m → b3 ≡ false
-granted_when true b2 b3 n m h = cc
-granted_when false true b3 n m h = cc
-granted_when false false true n m h = cc
-granted_when false false false n m h = refl
 
 -- What is known of the range of a Done Grant.
 pub record IsNext (h : List Entry) (e : Entry) (r : Range) : Type 0 where

@@ -4,7 +4,6 @@ pub mod HeldOrder
 pub mod Placing
 pub mod Pushing
 pub mod Leasts
-pub mod Carrying
 pub mod Turning
 pub mod Marked
 pub mod Following

@@ -3,7 +3,6 @@ use Rattle.std.proofs.Common.{◌≡◌, ◌∙◌, ℕ, zero, suc, ◌+◌, ◌
 use Rattle.std.proofs.Common.{◌∷◌, ◌++◌, map, set, take, Some, None, length, refl, sym, ap}
 use Rattle.std.proofs.Common.{ap₂, subst, arith, inl, inr, ◌⊎◌, length-append}
 use Rattle.std.specs.Prelude.{find, slice_get, ◌||◌}
-use Rattle.std.proofs.lemmas.List.{take-map}
 use Rattle.std.proofs.lemmas.List.Folds.{list_any-append}
 use Rattle.std.proofs.lemmas.Option.{none-some, same_Some, slice_get_within}
 use Rattle.s10_core.specs.declared.id.Id.{Id}
@@ -26,19 +25,18 @@ use Rattle.s10_ranges.specs.Mirror.{Mirrors, MirrorsAt}
 use Rattle.s10_ranges.specs.Moves.{AreMoves, IsMoveOf}
 use Rattle.s10_ranges.specs.Laps.{lap_of, mark_of, mark_after}
 use Rattle.s10_ranges.specs.Sound.{AreSound}
-use Rattle.s10_ranges.proofs.Carrying.{issues_upto, upto_next, picked_at, carried_at}
-use Rattle.s10_ranges.proofs.Carrying.{issue_within}
+use Rattle.s10_book.proofs.Carrying.{issues_upto, upto_next, picked_at, carried_at}
+use Rattle.s10_book.proofs.Carrying.{issue_within}
 use Rattle.s10_ranges.proofs.Following.{find_picked, found_number, issue_mirrors}
 use Rattle.s10_ranges.proofs.Marked.{mark_at_issues, mark_held}
-use Rattle.s10_ranges.proofs.Turning.{at_picks}
+use Rattle.s10_book.proofs.Carrying.{at_picks}
 
 -- The issuances of a history, followed by the first ones of the call after it.
 abbrev pub issues_to : List Entry → Entry → ℕ → List Issuance
 issues_to h e place = issues_of h ++ take place (issues_at (1 + length h) e)
 
 to_upto : (h : List Entry) (e : Entry) (place : ℕ) → issues_to h e place ≡ issues_upto h e place
-to_upto h e place = ap (λ l. issues_of h ++ l)
-    (take-map (made_by e (1 + length h)) place (carried_by e.outcome))
+to_upto h e place = refl
 
 -- The arrival of issuances.
 

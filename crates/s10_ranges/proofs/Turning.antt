@@ -1,17 +1,16 @@
 -- The lap of a range, and how its mark moves.
 use Rattle.std.proofs.Common.{◌≡◌, ◌∙◌, ℕ, ◌+◌, ◌-◌, ◌≤◌, Bool, true, false, cond, not, eqb, ◌||◌}
-use Rattle.std.proofs.Common.{List, [], ◌∷◌, ◌++◌, map, Option, Some, None, length, get_or, refl}
-use Rattle.std.proofs.Common.{sym, ap, ap₂, subst, arith, inl, inr, append-nil}
-use Rattle.std.specs.Prelude.{filter, All, Contains}
-use Rattle.std.specs.List.{list_any, last_or}
+use Rattle.std.proofs.Common.{List, [], ◌∷◌, ◌++◌, Option, Some, None, length, refl}
+use Rattle.std.proofs.Common.{sym, ap, ap₂, subst, arith, inl, inr}
+use Rattle.std.specs.Prelude.{Contains}
+use Rattle.std.specs.List.{last_or}
 use Rattle.std.specs.Option.{option_map, option_or, unwrap_or}
-use Rattle.std.proofs.lemmas.Bool.{both_ways, cases_eq, eq-eqb, ne_eqb, or_left, or_parts}
-use Rattle.std.proofs.lemmas.Bool.{false_from_ne_true, not_from_false}
-use Rattle.std.proofs.lemmas.List.Folds.{list_any-append, list_any_none, list_any_at}
-use Rattle.std.proofs.lemmas.List.Elements.{All-nil, All-push, All-weaker, All-contains}
+use Rattle.std.proofs.lemmas.Bool.{both_ways, cases_eq, eq-eqb, ne_eqb}
+use Rattle.std.proofs.lemmas.Bool.{false_from_ne_true, not_from_false, not-true}
+use Rattle.std.proofs.lemmas.List.Folds.{list_any-append, list_any_none}
+use Rattle.std.proofs.lemmas.List.Elements.{All-weaker, All-contains}
 use Rattle.s10_core.specs.declared.id.Id.{Id}
 use Rattle.s10_core.specs.Id.{same_id}
-use Rattle.s10_wire.specs.declared.outcome.Outcome.{Outcome}
 use Rattle.s10_wire.specs.declared.outcome.Outcome.TheVariants.{Granted}
 use Rattle.s10_history.specs.declared.candidate.Candidate.{Candidate}
 use Rattle.s10_history.specs.declared.entry.Entry.{Entry}
@@ -22,24 +21,22 @@ use Rattle.s10_history.specs.Settings.{Terms}
 use Rattle.s10_history.specs.History.{ranges_of, range_of_grant, lies_in}
 use Rattle.s10_history.specs.Issues.{issues_of, carried_by, is_of, is_issued, id_at, serials}
 use Rattle.s10_history.specs.Issues.{least_serial_unissued, serial_issued_earliest, pick_of}
-use Rattle.s10_history.specs.Issues.{serial_after, pick_after, is_voided, last_issue_of}
+use Rattle.s10_history.specs.Issues.{serial_after, is_voided, last_issue_of}
 use Rattle.s10_history.specs.Issues.{candidate_of}
 use Rattle.s10_book.specs.Rules.{IsLegal, MayFollow}
-use Rattle.s10_book.proofs.Apart.{new_apart}
-use Rattle.s10_book.proofs.Carried.{made_by, IsPicked, after_call}
 use Rattle.s10_book.proofs.Free.{id_equal, id_within, none_within}
-use Rattle.s10_book.proofs.Legal.{legal_induction}
-use Rattle.s10_book.proofs.Marks.{Turns, turns_inside, turns_outside, pick_turns, turns_pick}
-use Rattle.s10_book.proofs.Marks.{mark_step, picked_mark, all_at_pick, pick_new}
-use Rattle.s10_book.proofs.Own.{ordered, lies_at, lies_picked, new_ordered}
-use Rattle.s10_history.proofs.Push.{ranges_from-push, issues_from-push}
+use Rattle.s10_book.proofs.Marks.{Turns, turns_inside, turns_outside, pick_turns}
+use Rattle.s10_book.proofs.Marks.{pick_new, none_issued}
+use Rattle.s10_book.proofs.Own.{ordered, lies_at, new_ordered}
+use Rattle.s10_history.proofs.Push.{same_issues}
 use Rattle.s10_history.proofs.Numbering.{found_passes}
 use Rattle.s10_book.proofs.Spaced.{id_same}
 use Rattle.s10_ranges.specs.declared.mark.Mark.{Mark}
 use Rattle.s10_ranges.specs.declared.lap.Lap.{Lap}
 use Rattle.s10_ranges.specs.declared.lap.Lap.TheVariants.{First, Later}
 use Rattle.s10_ranges.specs.Laps.{lap_of, mark_of, mark_after}
-use Rattle.s10_ranges.proofs.Carrying.{issues_upto, upto_holds}
+use Rattle.s10_history.proofs.Voided.{or_none}
+use Rattle.s10_history.proofs.Issued.{none_filter}
 
 abbrev mark_at : ℕ → Lap → Mark
 mark_at serial lap = record { serial = serial; lap = lap }
@@ -86,10 +83,6 @@ mark_inside r is y turns lies at =
 
 -- After an issue outside the range.
 
-or_false : (b : Bool) → (b || (false || false)) ≡ b
-or_false true = refl
-or_false false = refl
-
 turn_outside : (r : Range) (is : List Issuance) (y : Issuance) → r.first ≤ r.last
     → lies_in r y.id ≡ false → lap_of (is ++ y ∷ []) r ≡ lap_of is r
 turn_outside r is y order out =
@@ -102,7 +95,7 @@ turn_outside r is y order out =
     ap (λ (b : Bool). cond b Later First)
     (list_any-append (is_of (id_at r r.last)) is (y ∷ [])
     ∙ ap (λ (b : Bool). is_issued is (id_at r r.last) || (b || false)) other
-    ∙ or_false (is_issued is (id_at r r.last)))
+    ∙ or_none (is_issued is (id_at r r.last)) false refl)
 
 pub mark_outside : (r : Range) (is : List Issuance) (y : Issuance) → r.first ≤ r.last
     → Turns r is (pick_of is r) → lies_in r y.id ≡ false → mark_of (is ++ y ∷ []) r ≡ mark_of is r
@@ -110,57 +103,7 @@ mark_outside r is y order turns out =
     ap₂ mark_at (pick_turns r (is ++ y ∷ []) (pick_of is r) (turns_outside r is y (pick_of is r) out
     turns)) (turn_outside r is y order out)
 
--- While the issues of a call are made.
-
--- The mark of each of the ranges is its pick.
-abbrev pub AtPicks : List Range → List Issuance → Type 0
-AtPicks rs is = (r : Range) → Contains rs r → Turns r is (pick_of is r)
-
--- The mark of each range is its pick before each index of a call that may follow.
-pub at_picks : (h : List Entry) (t : Terms) (e : Entry) (place : ℕ) → IsLegal h t → MayFollow h t e
-    → AtPicks (ranges_of h) (issues_upto h e place)
-at_picks h t e place legal may =
-    upto_holds (AtPicks (ranges_of h)) h t e place may (all_at_pick h t legal)
-    (λ is c picked before r there.
-    let y : Issuance = made_by e (1 + length h) c in
-    turns_pick r (is ++ y ∷ []) (
-      pick_after r (pick_of is r) c.1,
-      mark_step r is y (pick_of is r) (picked_mark h t e.request.customer e.day t.interval is c r
-          legal picked there) (before r there),
-    ))
-
 -- After the Grant of the range.
-
--- The issue lies in a range.
-abbrev IsCovered : List Entry → Issuance → Type 0
-IsCovered h i = list_any (λ r. lies_in r i.id) (ranges_of h) ≡ true
-
-covered_more : (g : List Entry) (e : Entry) (i : Issuance) → IsCovered g i
-    → IsCovered (g ++ e ∷ []) i
-covered_more g e i h =
-    let P : List Range → Type 0 = λ rs. list_any (λ r. lies_in r i.id) rs ≡ true in
-    subst P (sym (ranges_from-push 1 g e))
-    (list_any-append (λ r. lies_in r i.id) (ranges_of g) _
-    ∙ or_left (list_any (λ r. lies_in r i.id) (ranges_of g)) _ h)
-
-covered_picked : (g : List Entry) (t : Terms) (customer day n : ℕ) (is : List Issuance) (c : ℕ × Id)
-    → IsLegal g t → IsPicked (ranges_of g) customer day n is c
-    → list_any (λ r. lies_in r c.1) (ranges_of g) ≡ true
-covered_picked g t customer day n is c legal from =
-    let P : Range → Type 0 = λ r. lies_in r c.1 ≡ true in
-    list_any_at (λ r. lies_in r c.1) (ranges_of g) from.there.0 from.range from.there.1
-    (subst P (sym from.there.2) (lies_picked g t customer day n is c legal from))
-
-covered : (h : List Entry) (t : Terms) → IsLegal h t → All (IsCovered h) (issues_of h)
-covered h t legal = legal_induction (λ g. All (IsCovered g) (issues_of g)) h t legal
-    (All-nil (IsCovered []))
-    (λ g e legal_g before may.
-    let P : Issuance → Type 0 = IsCovered (g ++ e ∷ []) in
-    after_call (All P) g t e may (All-weaker (IsCovered g) P (covered_more g e) (issues_of g)
-    before)
-    (λ is c picked all.
-    All-push P is (made_by e (1 + length g) c) all (covered_more g e (made_by e (1 + length g) c)
-    (covered_picked g t e.request.customer e.day t.interval is c legal_g picked))))
 
 -- The last serial of a new range was never issued.
 last_new : (h : List Entry) (t : Terms) (e : Entry) (r : Range) (num : ℕ) → IsLegal h t
@@ -169,27 +112,19 @@ last_new : (h : List Entry) (t : Terms) (e : Entry) (r : Range) (num : ℕ) → 
 last_new h t e r num legal may made =
     let order = new_ordered h e.request.customer e.day t.interval num e.request.body e.outcome r
     may.right made in
-    let parted = new_apart h e.request.customer e.day t.interval num e.request.body e.outcome r
-    may.right made in
     let last : lies_in r (id_at r r.last) ≡ true =
     lies_at r r.last (record { low = order; high = omega arith }) in
     let P : Id → Type 0 = λ y. lies_in r y ≡ true in
     list_any_none (is_of (id_at r r.last)) (issues_of h)
-    (All-weaker (IsCovered h) (λ i. is_of (id_at r r.last) i ≡ false)
-    (λ i c. false_from_ne_true (same_id i.id (id_at r r.last)) (λ is.
-    both_ways (list_any (λ s. lies_in s i.id) (ranges_of h))
-    (list_any_none (λ s. lies_in s i.id) (ranges_of h)
-    (λ k d lt. false_from_ne_true (lies_in (get_or (ranges_of h) k d) i.id)
-    (λ old. parted k d lt i.id old (subst P (sym (id_equal i.id (id_at r r.last) is)) last))))
-    c))
-    (issues_of h) (covered h t legal))
+    (All-weaker (λ i. lies_in r i.id ≡ false) (λ i. is_of (id_at r r.last) i ≡ false)
+    (λ i out. false_from_ne_true (same_id i.id (id_at r r.last)) (λ is.
+    both_ways (lies_in r i.id) out (subst P (sym (id_equal i.id (id_at r r.last) is)) last)))
+    (issues_of h) (none_issued h t e r num legal may made))
 
 -- A Done Grant issues nothing.
 pub none_granted : (h : List Entry) (e : Entry) (num : ℕ) → e.outcome ≡ Granted num
     → issues_of (h ++ e ∷ []) ≡ issues_of h
-none_granted h e num done =
-    issues_from-push 1 h e ∙ ap (λ (o : Outcome). issues_of h ++ map (made_by e (1 + length h))
-    (carried_by o)) done ∙ append-nil (issues_of h)
+none_granted h e num done = same_issues h e (ap carried_by done)
 
 pub mark_new : (h : List Entry) (t : Terms) (e : Entry) (num : ℕ) (r : Range) → IsLegal h t
     → MayFollow h t e → e.outcome ≡ Granted num → range_of_grant (length (ranges_of h) + 1)
@@ -202,10 +137,6 @@ mark_new h t e num r legal may done made =
     may made))
 
 -- The serial at the mark in the first lap.
-
-not_yet : (b : Bool) → not b ≡ true → b ≡ false
-not_yet true h = absurd (let e = h in cc)
-not_yet false h = refl
 
 still_first : (b : Bool) → cond b Later First ≡ First → b ≡ false
 still_first true h = absurd (let e = h in cc)
@@ -229,13 +160,8 @@ pick_unissued is r order lap = at (least_serial_unissued r is) refl
     at (Some s) found =
         let P : ℕ → Type 0 = λ k. is_issued is (id_at r k) ≡ false in
         subst P (sym (ap (λ (o : Option ℕ). unwrap_or (option_or o (serial_issued_earliest r is))
-        r.first) found)) (not_yet (is_issued is (id_at r s))
+        r.first) found)) (not-true (is_issued is (id_at r s))
         (found_passes test (serials r) s found))
-
-none_passes : (p : Issuance → Bool) (xs : List Issuance) → list_any p xs ≡ false → filter p xs ≡ []
-none_passes p [] h = refl
-none_passes p (x ∷ xs) h = let both = or_parts (p x) (list_any p xs) h in
-    rw both.0 (none_passes p xs both.1)
 
 abbrev new_candidate : ℕ → Option Issue → Candidate
 new_candidate serial issue = record { serial = serial; issue = issue }
@@ -256,6 +182,6 @@ candidate_new h t r m legal there is first =
     } in
     let none : last_issue_of h x ≡ None =
     ap (λ (is : List Issuance). option_map told (last_or None is))
-    (none_passes (is_of x) (issues_of h)
+    (none_filter (is_of x) (issues_of h)
     (pick_unissued (issues_of h) r (in_order h t r legal there) lap)) in
     ap₂ new_candidate serial (sym none)

@@ -6,11 +6,11 @@ use Rattle.s10_wire.specs.Datagrams.{Replies}
 use Rattle.s10_history.specs.declared.entry.Entry.{Entry}
 use Rattle.s10_rows.specs.CallRow.{StoredCall}
 use Rattle.s10_rows.specs.Tables.{call_row}
-use Rattle.s10_rows.specs.Replies.{request_in, outcome_in, reply_bytes}
+use Rattle.s10_wire.specs.Replies.{request_in, outcome_in, reply_bytes}
 use Rattle.s10_replay.specs.RightRows.{entry_of, day_in}
 use Rattle.s10_rows.specs.Selected.{IsCall}
 use Rattle.s10_replay.specs.ReadRows.{IsCallOf}
-use Rattle.s10_replay.proofs.Replies.{replies_read}
+use Rattle.s10_wire.proofs.Replies.{replies_read}
 
 abbrev pub kept_as : Request → ℕ → Outcome → Entry
 kept_as q day o = record { request = q; day = day; outcome = o }

@@ -34,7 +34,7 @@ use Rattle.s10_core.proofs.Pairs.{one_pair}
 use Rattle.s10_replay.proofs.Tests.{one_number}
 use Rattle.s10_replay.proofs.LastIssues.{All-last_issues}
 use Rattle.s10_replay.proofs.SerialRows.{issues_of_fit}
-use Rattle.s10_replay.proofs.Replayed.{there_at}
+use Rattle.std.proofs.lemmas.Option.{slice_get-get_or}
 
 -- Sorted rows are equal to rising ones exactly if both have the same rows.
 pub same_where_sorted : {X : Type 0} (cmp : X → X → Ordering) → IsTotalOrder cmp
@@ -171,7 +171,7 @@ serial_rows_apart h calls = no_ties (λ i. voided_after i.arrival h i.id) (issue
 -- The calls of right rows have rows: each part is in its bounds.
 pub right_calls : (t : Terms) (rows : List StoredCall) → AreRight t rows → All IsCall (kept_of rows)
 right_calls t rows right = All-map IsCall entry_of rows (λ k d lt.
-    let row = right k (get_or rows k d) (there_at rows k d lt) in
+    let row = right k (get_or rows k d) (slice_get-get_or rows k d lt) in
     let r = row.replies in
     record { request = r.0; outcome = r.1; fitting = r.2; day = row.day_fits })
 

@@ -1,13 +1,12 @@
 -- The row that a Done Grant adds.
-use Rattle.std.proofs.Common.{◌≡◌, ℕ, ◌+◌, Bool, true, false, cond, List, [], ◌∷◌, ◌++◌, map}
+use Rattle.std.proofs.Common.{◌≡◌, ℕ, ◌+◌, List, [], ◌∷◌, ◌++◌, map}
 use Rattle.std.proofs.Common.{length, Option, Some, sym, ap, ap₂, ◌∙◌, arith}
 use Rattle.std.specs.Prelude.{option_to_list}
 use Rattle.std.proofs.lemmas.List.{map-append}
 use Rattle.s10_wire.specs.declared.body.Body.{Body}
 use Rattle.s10_wire.specs.declared.body.Body.TheVariants.{Grant}
 use Rattle.s10_wire.specs.declared.outcome.Outcome.{Outcome}
-use Rattle.s10_wire.specs.declared.outcome.Outcome.TheVariants.{Granted, Voided, NotThePost}
-use Rattle.s10_wire.specs.declared.outcome.Outcome.TheVariants.{BadGrant, Overlap}
+use Rattle.s10_wire.specs.declared.outcome.Outcome.TheVariants.{Granted, Voided}
 use Rattle.s10_history.specs.declared.entry.Entry.{Entry}
 use Rattle.s10_history.specs.declared.range.Range.{Range}
 use Rattle.s10_history.specs.declared.issuance.Issuance.{Issuance}
@@ -22,14 +21,9 @@ use Rattle.s10_rows.specs.declared.range_write.RangeWrite.TheVariants.{New}
 use Rattle.s10_rows.specs.Tables.{range_row, range_rows, serial_rows}
 use Rattle.s10_rows.specs.RowWrites.{MakesWrites}
 use Rattle.s10_rows.proofs.Replaced.{same_rows}
-use Rattle.s10_replay.proofs.RowsAfterCall.{same_issues, same_serial_rows, none_voided}
-
-granted_parts : (b1 b2 b3 : Bool) (n m : ℕ)
-    → cond b1 NotThePost (cond b2 BadGrant (cond b3 Overlap (Granted n))) ≡ Granted m → n ≡ m
-granted_parts true b2 b3 n m e = cc
-granted_parts false true b3 n m e = cc
-granted_parts false false true n m e = cc
-granted_parts false false false n m e = cc
+use Rattle.s10_history.proofs.Push.{same_issues}
+use Rattle.s10_replay.proofs.RowsAfterCall.{same_serial_rows, none_voided}
+use Rattle.s10_book.proofs.Apart.{granted_parts}
 
 -- A Done Grant adds the range of its number.
 made_range : (h : List Entry) (customer day interval num : ℕ) (b : Body) (o : Outcome) (r : Range)

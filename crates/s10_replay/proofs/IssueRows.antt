@@ -8,7 +8,7 @@ use Rattle.std.specs.List.{list_any, last_or}
 use Rattle.std.specs.Ordering.{int_eq}
 use Rattle.std.proofs.lemmas.Bool.Decides.{same_from_decides}
 use Rattle.std.proofs.lemmas.Bool.{both_ways, cases_Bool, eq-eqb, eqb-true}
-use Rattle.std.proofs.lemmas.Option.{none-some, same_Some, slice_get-get_or, slice_get_within}
+use Rattle.std.proofs.lemmas.Option.{same_Some, slice_get-get_or, slice_get_within}
 use Rattle.std.proofs.lemmas.Option.{get_or_from_slice_get}
 use Rattle.std.proofs.lemmas.List.{map-append, drop_all, length-map}
 use Rattle.std.proofs.lemmas.List.Folds.{list_any-append}
@@ -26,7 +26,7 @@ use Rattle.s10_history.specs.Issues.{issues_at, issues_of, is_of, is_issued, las
 use Rattle.s10_history.specs.Issues.{last_issuance_of, voids, voided_after, pick_of, pick_after}
 use Rattle.s10_history.specs.Issues.{serial_after}
 use Rattle.s10_book.specs.Rules.{IsLegal, MayFollow}
-use Rattle.s10_history.proofs.Numbering.{Numbered, numbered}
+use Rattle.s10_history.proofs.Numbering.{Numbered, numbered, past_end}
 use Rattle.s10_history.proofs.Push.{issues_from-push}
 use Rattle.s10_book.proofs.Apart.{apart}
 use Rattle.s10_book.proofs.Carried.{made_by}
@@ -44,14 +44,18 @@ use Rattle.s10_core.specs.Pair.{pair_of}
 use Rattle.s10_rows.specs.Tables.{range_row, range_rows, serial_row, serial_rows}
 use Rattle.s10_rows.specs.Selected.{IsCall, IsIssuance}
 use Rattle.s10_rows.specs.RowWrites.{FindAtMostOne, IssueWritesMake, MakesWrites, issues_before}
-use Rattle.s10_rows.specs.RowWrites.{marked, is_at, row_of, with_range, with_ranges, with_serial}
+use Rattle.s10_rows.specs.RowWrites.{marked, is_at, row_of, with_range, with_serial}
 use Rattle.s10_rows.specs.RowWrites.{with_serials, write_of}
 use Rattle.s10_replay.proofs.Tests.{int_eq-pos, between_itself}
-use Rattle.s10_replay.proofs.LastIssues.{none_filter, last_of, All-last_issues}
+use Rattle.s10_history.proofs.Issued.{none_filter}
+use Rattle.s10_replay.proofs.LastIssues.{last_of, All-last_issues}
 use Rattle.s10_replay.proofs.SerialRows.{issues_at_fit, issues_of_fit, row_of_is, filter_image}
 use Rattle.s10_rows.proofs.Replaced.{same_images, map_twice, images_agree, all_left, same_rows}
-use Rattle.s10_replay.proofs.CallIssues.{IsIssueAt, issue_at, pick_moved, before_more}
-use Rattle.s10_replay.proofs.RowsAfterCall.{row_in, same_row_in, same_ranges, none_made, none_voided}
+use Rattle.s10_rows.proofs.Writing.{ranges_then, serials_then}
+use Rattle.s10_replay.proofs.CallIssues.{IsIssueAt, issue_at, pick_moved}
+use Rattle.s10_replay.proofs.RowsAfterCall.{row_in, same_row_in, none_made, none_voided}
+use Rattle.s10_book.proofs.Carrying.{issue_next}
+use Rattle.s10_history.proofs.Push.{same_ranges}
 
 -- The number of a range gives its index.
 num_at : (n : ℕ) (r : Range) (rs : List Range) → Numbered n rs → (there : Contains rs r)
@@ -71,16 +75,6 @@ one_numbered rs r s up cr cs same =
     same_Some s r (sym g ∙ ap (slice_get rs) at ∙ f)
 
 -- One more write.
-
-more_ranges : (ws : List RangeWrite) (w : RangeWrite) (rows : List RangeRow)
-    → with_ranges (ws ++ w ∷ []) rows ≡ with_range w (with_ranges ws rows)
-more_ranges [] w rows = refl
-more_ranges (v ∷ ws) w rows = more_ranges ws w (with_range v rows)
-
-more_serials : (ws : List SerialWrite) (w : SerialWrite) (rows : List SerialRow)
-    → with_serials (ws ++ w ∷ []) rows ≡ with_serial w (with_serials ws rows)
-more_serials [] w rows = refl
-more_serials (v ∷ ws) w rows = more_serials ws w (with_serial v rows)
 
 few_more : (ws : List SerialWrite) (w : SerialWrite) (rows : List SerialRow) → FindAtMostOne ws rows
     → length (filter (is_at (row_of w).pair (row_of w).serial) (with_serials ws rows)) ≤ 1
@@ -302,7 +296,7 @@ issue_makes h t e place y r issued ranges serials legal may calls call at there 
     let right : IsId y.id =
     (All-contains IsIssuance (issues_at (1 + length h) e) y fits.1
     (in_list (issues_at (1 + length h) e) place y at)).id in
-    let more : issues_before (place + 1) h e ≡ is ++ y ∷ [] = before_more h e place y at in
+    let more : issues_before (place + 1) h e ≡ is ++ y ∷ [] = issue_next h e place y at in
     let rows : List Issuance → List RangeRow = λ js. map (λ s. range_row (pick_of js s) s)
     (ranges_of h) in
     let write : RangeWrite = Mark (pos r.num) (pos (serial_after r y.id.serial)) in
@@ -318,10 +312,10 @@ issue_makes h t e place y r issued ranges serials legal may calls call at there 
     λ l. length (filter (is_at (row_of (write_of issued row)).pair
     (row_of (write_of issued row)).serial) l) ≤ 1 in
     record {
-      ranges = more_ranges ranges write (range_rows h) ∙ ap (with_range write) made.ranges
+      ranges = ranges_then ranges write (range_rows h) ∙ ap (with_range write) made.ranges
           ∙ subst step (sym found.1) (ranges_more h t e place found.0 r legal found.2 there) lies
           ∙ ap rows (sym more);
-      serials = more_serials serials (write_of issued row) (serial_rows h)
+      serials = serials_then serials (write_of issued row) (serial_rows h)
           ∙ ap (with_serial (write_of issued row)) made.serials
           ∙ serials_more h is y issued fits.0 right (ap (λ (b : Bool). serial_row b y) late) never
           ∙ ap (λ (js : List Issuance). map (row_in h) (last_issues js)) (sym more);
@@ -341,11 +335,6 @@ none_make h e =
       few = tt;
     }
 
-past : {A : Type 0} (xs : List A) (k : ℕ) → slice_get xs k ≡ None → length xs ≤ k
-past [] k none = omega arith
-past (x ∷ xs) zero none = absurd (none-some x (sym none))
-past (x ∷ xs) (suc k) none = let le = past xs k none in omega (arith, le)
-
 -- A call that is no Grant and no Void writes the rows of its issuances.
 pub all_make : (h : List Entry) (e : Entry) (place : ℕ) (ranges : List RangeWrite)
     (serials : List SerialWrite) → ((num : ℕ) → ¬ (e.outcome ≡ Granted num))
@@ -355,7 +344,7 @@ pub all_make : (h : List Entry) (e : Entry) (place : ℕ) (ranges : List RangeWr
 all_make h e place ranges serials not_granted not_voided none made =
     let l : List Issuance = issues_at (1 + length h) e in
     let issues : issues_before place h e ≡ issues_of (h ++ e ∷ []) =
-    ap (λ (js : List Issuance). issues_of h ++ js) (take_all place l (past l place none))
+    ap (λ (js : List Issuance). issues_of h ++ js) (take_all place l (past_end l place none))
     ∙ sym (issues_from-push 1 h e) in
     let same : ranges_of h ≡ ranges_of (h ++ e ∷ []) =
     sym (same_ranges h e (none_made (1 + length (ranges_of h)) e.request.body e.outcome

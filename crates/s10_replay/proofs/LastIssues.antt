@@ -1,27 +1,14 @@
 -- Each identifier that was issued has one issuance among those that are the last of theirs.
-use Rattle.std.proofs.Common.{◌≡◌, Bool, true, false, cond, List, [], ◌∷◌, Option, Some, None, refl}
+use Rattle.std.proofs.Common.{◌≡◌, Bool, true, false, cond, List, [], ◌∷◌, Some, None, refl}
 use Rattle.std.proofs.Common.{sym, ap, ◌∙◌}
 use Rattle.std.specs.Prelude.{filter, All, option_to_list}
-use Rattle.std.specs.List.{list_any, last_or}
-use Rattle.std.proofs.lemmas.Bool.{or_parts}
-use Rattle.std.proofs.lemmas.Option.{none-some}
+use Rattle.std.specs.List.{last_or}
 use Rattle.std.proofs.lemmas.List.Elements.{All-cons, All-head, All-tail}
 use Rattle.s10_core.specs.declared.id.Id.{Id}
 use Rattle.s10_history.specs.declared.issuance.Issuance.{Issuance}
 use Rattle.s10_history.specs.Issues.{is_of, is_issued, last_issuance_of, last_issues}
 use Rattle.s10_book.proofs.Free.{id_equal, issued_latest}
-
--- If no element passes, the filtered list is empty.
-pub none_filter : {A : Type 0} (p : A → Bool) (xs : List A) → list_any p xs ≡ false
-    → filter p xs ≡ []
-none_filter p [] h = refl
-none_filter p (x ∷ xs) h = let both = or_parts (p x) (list_any p xs) h in
-    rw both.0 (none_filter p xs both.1)
-
-last_or-more : {A : Type 0} (o : Option A) (xs : List A) (l : A) → last_or None xs ≡ Some l
-    → last_or o xs ≡ Some l
-last_or-more o [] l e = absurd (none-some l e)
-last_or-more o (x ∷ xs) l e = e
+use Rattle.s10_history.proofs.Issued.{none_filter, last_or-more}
 
 -- One more issuance: its identifier is or is not issued again later, and is or is not the given
 -- one.

@@ -1,7 +1,6 @@
 pub mod Tests
 pub mod Sorting
 pub mod SameRows
-pub mod Replies
 pub mod Calls
 pub mod CallRows
 pub mod Parts

@@ -1,9 +1,9 @@
 -- The rows of calls that were executed again.
-use Rattle.std.proofs.Common.{◌≡◌, ℕ, ℤ, zero, suc, ◌+◌, ◌^◌, ◌<◌, List, [], ◌∷◌, ◌++◌, length}
-use Rattle.std.proofs.Common.{get_or, take, length-take, Option, Some, refl, sym, ap, ◌∙◌, ◌⊎◌, inl}
+use Rattle.std.proofs.Common.{◌≡◌, ℕ, ℤ, suc, ◌+◌, ◌^◌, ◌<◌, List, [], ◌∷◌, ◌++◌, length}
+use Rattle.std.proofs.Common.{get_or, take, length-take, Option, Some, sym, ap, ◌∙◌, inl}
 use Rattle.std.proofs.Common.{inr, arith, pos, subst}
-use Rattle.std.specs.Prelude.{slice_get, None, IfSome, IfNone}
-use Rattle.std.proofs.lemmas.Option.{none-some, same_Some}
+use Rattle.std.specs.Prelude.{None, IfSome, IfNone}
+use Rattle.std.proofs.lemmas.Option.{none-some, slice_get-get_or}
 use Rattle.std.proofs.lemmas.List.{take_more, map-append, length-map}
 use Rattle.s10_history.specs.declared.entry.Entry.{Entry}
 use Rattle.s10_history.specs.Settings.{Terms, AreTerms}
@@ -17,6 +17,7 @@ use Rattle.s10_replay.specs.RightRows.{IsRightRow, AreRight, kept_of, entry_of}
 use Rattle.s10_rows.specs.Selected.{IsCall}
 use Rattle.s10_replay.specs.CheckedTables.{IsHead, IsFirstWrong, IsRefusal}
 use Rattle.s10_wire.specs.Datagrams.{Replies}
+use Rattle.s10_book.proofs.Push.{place_cases}
 
 -- A row that does not hold settings is not that of head.
 pub no_head : (rows : List HeadRow) (d : HeadRow) → ((s : ℤ) (u : Terms) → AreTerms u
@@ -61,20 +62,6 @@ right_row row e t before read arrival customer number follows =
       },
     )
 
--- The element at an index of a list with one more element.
-pub place_cases : {A : Type 0} (xs : List A) (a : A) (k : ℕ) (x : A) → slice_get (xs ++ a ∷ []) k
-    ≡ Some x
-    → ((slice_get xs k ≡ Some x) × (take k (xs ++ a ∷ []) ≡ take k xs))
-    ⊎ ((x ≡ a) × (take k (xs ++ a ∷ []) ≡ xs))
-place_cases [] a zero x is = inr (sym (same_Some a x is), refl)
-place_cases [] a (suc k) x is = absurd (none-some x is)
-place_cases (y ∷ ys) a zero x is = inl (is, refl)
-place_cases (y ∷ ys) a (suc k) x is =
-    elim (place_cases ys a k x is) [
-      | inl w ↦ inl (w.0, ap (λ l. y ∷ l) w.1)
-      | inr w ↦ inr (w.0, ap (λ l. y ∷ l) w.1)
-    ]
-
 right_push : (t : Terms) (xs : List StoredCall) (a : StoredCall) → AreRight t xs
     → IsRightRow t (kept_of xs) a → AreRight t (xs ++ a ∷ [])
 right_push t xs a right here k row is =
@@ -103,12 +90,6 @@ kept_more rows i row within is =
     ap kept_of (take_more rows i row within ∙ ap (λ r. take i rows ++ r ∷ []) (sym is))
     ∙ map-append entry_of (take i rows) (row ∷ [])
 
-pub there_at : {A : Type 0} (xs : List A) (i : ℕ) (d : A) → i < length xs
-    → slice_get xs i ≡ Some (get_or xs i d)
-there_at [] i d lt = absurd (omega arith)
-there_at (x ∷ xs) zero d lt = refl
-there_at (x ∷ xs) (suc i) d lt = there_at xs i d (omega arith)
-
 -- The row after the right ones is the first wrong one.
 pub first_wrong : (tables : Tables) (t : Terms) (rows : List StoredCall) (i n : ℕ)
     (row : StoredCall) → tables.calls ≡ rows → IsHead tables.heads (pos 1) t
@@ -120,7 +101,7 @@ first_wrong tables t rows i n row same head within is count right wrong =
     record {
       right = right;
       row = row;
-      there = there_at rows i row within ∙ ap Some (sym is);
+      there = slice_get-get_or rows i row within ∙ ap Some (sym is);
       wrong = wrong;
     } in
     subst (λ m. IsRefusal tables (Damaged m)) (sym count)

@@ -14,7 +14,7 @@ use Rattle.s10_history.specs.declared.entry.Entry.{Entry}
 use Rattle.s10_history.specs.declared.issue.Issue.{Issue}
 use Rattle.s10_history.specs.declared.issuance.Issuance.{Issuance}
 use Rattle.s10_history.specs.Issues.{issues_at, issues_from, issues_of, is_of, last_issuance_of}
-use Rattle.s10_history.specs.Issues.{last_issues, voided_after}
+use Rattle.s10_history.specs.Issues.{last_issues}
 use Rattle.s10_book.proofs.Free.{id_equal}
 use Rattle.s10_book.proofs.Spaced.{id_same}
 use Rattle.s10_book.proofs.Carried.{issued_at}
@@ -119,9 +119,6 @@ abbrev pub Tell : List SerialRow → Option Issue → Type 0
 Tell rows None = rows ≡ []
 Tell rows (Some issue) = (v : Bool)
     × ((i : Issuance) × (IsIssuance i × (rows ≡ serial_row v i ∷ []) × (issue ≡ issue_in_row v i)))
-
-abbrev last_row : List Entry → Issuance → SerialRow
-last_row h i = serial_row (voided_after i.arrival h i.id) i
 
 -- What is true of the elements that pass is true of the last of them.
 pub last_passes : (P : Issuance → Type 0) (x : Id) (is : List Issuance) (i : Issuance) → All P is

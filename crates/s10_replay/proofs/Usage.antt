@@ -1,10 +1,10 @@
 -- The usage of a range, counted row by row.
-use Rattle.std.proofs.Common.{zero-add, take_all, length-take, ◌≡◌, ℕ, zero, suc, ◌+◌, ◌-◌, ◌<◌}
+use Rattle.std.proofs.Common.{zero-add, take_all, length-take, ◌≡◌, ℕ, ◌+◌, ◌-◌, ◌<◌}
 use Rattle.std.proofs.Common.{◌≤◌, Bool, true, false, not, cond, leb, ◌&&◌, pos, List, [], ◌∷◌, map}
 use Rattle.std.proofs.Common.{length, get_or, take, Option, Some, None, refl, sym, ap, ap₂, ◌∙◌}
 use Rattle.std.proofs.Common.{arith}
 use Rattle.std.specs.Prelude.{filter, All, max, nat_le, option_to_list, is_some, count_by}
-use Rattle.std.specs.List.{sum_by, range_with_len}
+use Rattle.std.specs.List.{sum_by}
 use Rattle.std.specs.Option.{option_map, unwrap_or}
 use Rattle.std.specs.Ordering.{int_eq}
 use Rattle.std.specs.Coded.{Coded-set, coded_ℕ}
@@ -28,7 +28,7 @@ use Rattle.s10_history.specs.Issues.{issues_of, is_issued, is_voided, is_free, i
 use Rattle.s10_history.specs.Issues.{last_issuance_of, last_issues, voided_after, id_at, serials}
 use Rattle.s10_history.specs.Usage.{usage_of}
 use Rattle.s10_book.proofs.Apart.{letters_equal, letters_same}
-use Rattle.s10_history.proofs.Counting.{issued_is}
+use Rattle.s10_history.proofs.Counting.{issued_is, same_usage}
 use Rattle.s10_rows.specs.declared.serial_row.SerialRow.{SerialRow}
 use Rattle.s10_core.specs.Pair.{pair_of}
 use Rattle.s10_rows.specs.Tables.{HaveSameRows, serial_row, serial_rows, flag}
@@ -41,9 +41,8 @@ use Rattle.s10_replay.proofs.SameRows.{same_length}
 use Rattle.s10_replay.proofs.LastIssues.{last_of, All-last_issues}
 use Rattle.s10_replay.proofs.SerialRows.{issues_of_fit, filter_image, last_passes}
 use Rattle.s10_replay.proofs.Sums.{sum_same, sum_both, by_serials}
-
-abbrev last_row : List Entry → Issuance → SerialRow
-last_row h i = serial_row (voided_after i.arrival h i.id) i
+use Rattle.std.proofs.lemmas.List.FromFn.{length-range_with_len}
+use Rattle.s10_replay.proofs.RowsAfterCall.{row_in}
 
 abbrev rows_within : Range → SerialRow → Bool
 rows_within r row = is_within (pos (pair_of r.service r.country)) (pos r.first) (pos r.last) row
@@ -70,9 +69,9 @@ within_is v i r here range =
 
 selected : (h : List Entry) (r : Range) → All IsCall h → IsRange r
     → filter (rows_within r) (serial_rows h)
-    ≡ map (last_row h) (filter (λ i. lies_in r i.id) (last_issues (issues_of h)))
+    ≡ map (row_in h) (filter (λ i. lies_in r i.id) (last_issues (issues_of h)))
 selected h r calls range =
-    filter_image (rows_within r) (λ i. lies_in r i.id) (last_row h) IsIssuance
+    filter_image (rows_within r) (λ i. lies_in r i.id) (row_in h) IsIssuance
     (λ i p. within_is (voided_after i.arrival h i.id) i r p.id range)
     (last_issues (issues_of h))
     (All-last_issues IsIssuance (issues_of h) (issues_of_fit h calls))
@@ -94,13 +93,13 @@ voided_flag false = refl
 -- A sum over the selected rows, serial by serial.
 rows_sum : (g : SerialRow → ℕ) (h : List Entry) (r : Range) → All IsCall h → IsRange r
     → sum_by g (filter (rows_within r) (serial_rows h))
-    ≡ sum_by (λ s. sum_by (λ i. g (last_row h i))
+    ≡ sum_by (λ s. sum_by (λ i. g (row_in h i))
     (option_to_list (last_issuance_of (issues_of h) (id_at r s)))) (serials r)
 rows_sum g h r calls range =
     ap (sum_by g) (selected h r calls range)
-    ∙ sum_of_image g (last_row h) (filter (λ i. lies_in r i.id) (last_issues (issues_of h)))
-    ∙ by_serials (λ i. g (last_row h i)) r (last_issues (issues_of h))
-    ∙ sum_same _ _ (serials r) (λ s. ap (sum_by (λ i. g (last_row h i)))
+    ∙ sum_of_image g (row_in h) (filter (λ i. lies_in r i.id) (last_issues (issues_of h)))
+    ∙ by_serials (λ i. g (row_in h i)) r (last_issues (issues_of h))
+    ∙ sum_same _ _ (serials r) (λ s. ap (sum_by (λ i. g (row_in h i)))
     (last_of (issues_of h) (id_at r s)))
 
 one_issued : (o : Option Issuance) (f : Issuance → Issue) (b : Bool) → is_some (option_map f o) ≡ b
@@ -110,10 +109,10 @@ one_issued (Some i) f b e = ap (λ t. cond t 1 0) e
 
 one_voided : (h : List Entry) (x : Id) (o : Option Issuance)
     → ((i : Issuance) → o ≡ Some i → i.id ≡ x)
-    → sum_by (λ i. cond (is_voided_row (last_row h i)) 1 0) (option_to_list o)
+    → sum_by (λ i. cond (is_voided_row (row_in h i)) 1 0) (option_to_list o)
     ≡ cond (unwrap_or (option_map (λ i. voided_after i.arrival h x) o) false) 1 0
 one_voided h x None of = refl
-one_voided h x (Some i) of = zero-add (cond (is_voided_row (last_row h i)) 1 0)
+one_voided h x (Some i) of = zero-add (cond (is_voided_row (row_in h i)) 1 0)
     ∙ ap (λ (t : Bool). cond t 1 0) (voided_flag (voided_after i.arrival h i.id)
     ∙ ap (voided_after i.arrival h) (of i refl))
 
@@ -123,15 +122,11 @@ one_of_two false = refl
 
 one_free : (h : List Entry) (day interval : ℕ) (o : Option Issuance)
     → cond (is_free_since day interval (option_map (λ (i : Issuance). i.day) o)) 1 0 + sum_by
-    (λ i. cond (is_taken day interval (last_row h i)) 1 0) (option_to_list o) ≡ 1
+    (λ i. cond (is_taken day interval (row_in h i)) 1 0) (option_to_list o) ≡ 1
 one_free h day interval None = refl
 one_free h day interval (Some i) = ap (λ n. cond (nat_le interval (day - i.day)) 1 0 + n)
     (zero-add (cond (not (nat_le interval (day - i.day))) 1 0))
     ∙ one_of_two (nat_le interval (day - i.day))
-
-length_range : (low n : ℕ) → length (range_with_len low n) ≡ n
-length_range low zero = refl
-length_range low (suc n) = ap suc (length_range (low + 1) n)
 
 -- What the rows of a range count.
 pub record IsCounted (h : List Entry) (r : Range) (day interval : ℕ) (rows : List SerialRow) :
@@ -152,7 +147,7 @@ counted h r day interval calls range =
     ∙ sum_same _ _ (serials r) (λ s. one_issued (last_issuance_of is (id_at r s)) _
     (is_issued is (id_at r s)) (issued_is h (id_at r s))) in
     let all : length (serials r) ≡ r.last + 1 - r.first =
-    length_range r.first (r.last + 1 - r.first) in
+    length-range_with_len r.first (r.last + 1 - r.first) in
     record {
       used = used;
       voided = rows_sum (λ row. cond (is_voided_row row) 1 0) h r calls range
@@ -162,7 +157,7 @@ counted h r day interval calls range =
       free = ap (λ n. count_by (λ s. is_free is (id_at r s) day interval) (serials r) + n)
           (rows_sum (λ row. cond (is_taken day interval row) 1 0) h r calls range)
           ∙ sym (sum_both (λ s. cond (is_free is (id_at r s) day interval) 1 0)
-          (λ s. sum_by (λ i. cond (is_taken day interval (last_row h i)) 1 0)
+          (λ s. sum_by (λ i. cond (is_taken day interval (row_in h i)) 1 0)
           (option_to_list (last_issuance_of is (id_at r s)))) (serials r))
           ∙ sum_same _ (λ s. 1) (serials r)
           (λ s. one_free h day interval (last_issuance_of is (id_at r s)))
@@ -241,9 +236,6 @@ UsedSoFar-step rows day interval count i d u v issue lt void_is day_is e0 e1 e2 
       free = omega (arith, e2, so.free, more_taken, one_taken);
     }
 
-same_usage : (a b : Usage) → a.used ≡ b.used → a.voided ≡ b.voided → a.free ≡ b.free → a ≡ b
-same_usage a b e0 e1 e2 = λ i. record { used = e0 i; voided = e1 i; free = e2 i }
-
 -- All rows are counted.
 pub UsedSoFar-end : (r : Range) (day interval count i : ℕ) (rows : List SerialRow) (u : Usage)
     → length rows ≤ i → i ≤ length rows
@@ -276,10 +268,10 @@ abbrev Reads : SerialRow → Type 0
 Reads row = (v : Bool) × ((j : Issuance) × (IsIssuance j × (row ≡ serial_row v j)))
 
 all_read : (h : List Entry) (is : List Issuance) → All IsIssuance is
-    → All Reads (map (last_row h) is)
+    → All Reads (map (row_in h) is)
 all_read h [] all = All-nil Reads
 all_read h (i ∷ is) all =
-    All-cons Reads (last_row h i) (map (last_row h) is) (
+    All-cons Reads (row_in h i) (map (row_in h) is) (
       voided_after i.arrival h i.id,
       (i, (All-head IsIssuance i is all, refl)),
     ) (all_read h is (All-tail IsIssuance i is all))

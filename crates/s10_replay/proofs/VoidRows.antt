@@ -29,8 +29,9 @@ use Rattle.s10_rows.specs.RowWrites.{MakesWrites, is_at}
 use Rattle.s10_replay.proofs.LastIssues.{last_of}
 use Rattle.s10_replay.proofs.SerialRows.{issues_of_fit, last_passes}
 use Rattle.s10_rows.proofs.Replaced.{replaced, same_rows}
-use Rattle.s10_replay.proofs.RowsAfterCall.{row_in, same_issues, same_range_rows, same_voided}
-use Rattle.s10_replay.proofs.RowsAfterCall.{now_voided, none_made}
+use Rattle.s10_history.proofs.Push.{same_issues}
+use Rattle.s10_history.proofs.Voided.{same_voided, now_voided}
+use Rattle.s10_replay.proofs.RowsAfterCall.{row_in, same_range_rows, none_made}
 use Rattle.s10_replay.proofs.IssueRows.{few_at, rows_but_at}
 
 other_id : (x y : Id) → same_id x y ≡ same_id y x

@@ -6,7 +6,7 @@ use Rattle.s10_history.specs.declared.entry.Entry.{Entry}
 use Rattle.s10_history.specs.Settings.{Terms}
 use Rattle.s10_book.specs.Rules.{MayFollow}
 use Rattle.s10_rows.specs.CallRow.{StoredCall}
-use Rattle.s10_rows.specs.Replies.{request_in, outcome_in}
+use Rattle.s10_wire.specs.Replies.{request_in, outcome_in}
 
 -- The day in a column: 0 if the column is negative.
 abbrev pub day_in : ℤ → ℕ

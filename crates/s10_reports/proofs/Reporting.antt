@@ -23,7 +23,7 @@ use Rattle.s10_reports.specs.declared.report_fault.ReportFault.{ReportFault}
 use Rattle.s10_reports.specs.declared.report_fault.ReportFault.TheVariants.{Book, Write}
 use Rattle.s10_reports.specs.ReportFault.{Reported}
 use Rattle.s10_history.proofs.Push.{issues_from-push}
-use Rattle.s10_history.proofs.Numbering.{Numbered, numbered, find_cases}
+use Rattle.s10_history.proofs.Numbering.{Numbered, numbered, find_cases, past_end}
 
 -- A report begins with its first line.
 pub joined_one : (u v : Option (List ℕ)) (line : List ℕ) → Appends u v line
@@ -145,18 +145,13 @@ taken : (f : Issuance → List ℕ) (some more : List Issuance)
 taken f [] more = refl
 taken f (i ∷ some) more = ap (λ (l : List (List ℕ)). f i ∷ l) (taken f some more)
 
-past_none : {X : Type 0} (xs : List X) (k : ℕ) → slice_get xs k ≡ None → length xs ≤ k
-past_none [] k e = omega arith
-past_none (x ∷ xs) zero e = absurd (none-some x (sym e))
-past_none (x ∷ xs) (suc k) e = let rest : length xs ≤ k = past_none xs k e in omega arith
-
 entry_is : (h : List Entry) (k : ℕ) → entry_at h (k + 1) ≡ slice_get h k
 entry_is h k = let on : k + 1 ≡ suc k = omega arith in ap (entry_at h) on
 
 -- If there is no call with the next number, all calls were reported.
 pub entries_past : (h : List Entry) (k : ℕ) (o : Option Entry) → o ≡ entry_at h (k + 1) → o ≡ None
     → length h ≤ k
-entries_past h k o is none = past_none h k (sym (entry_is h k) ∙ sym is ∙ none)
+entries_past h k o is none = past_end h k (sym (entry_is h k) ∙ sym is ∙ none)
 
 calls_more : (h : List Entry) (k : ℕ) (e : Entry) → slice_get h k ≡ Some e
     → take (k + 1) h ≡ take k h ++ e ∷ []

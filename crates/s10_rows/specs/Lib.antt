@@ -1,5 +1,4 @@
 pub mod CallRow
-pub mod Replies
 pub mod Tables
 pub mod RowWrites
 pub mod Selected

@@ -17,7 +17,7 @@ use Rattle.s10_rows.specs.declared.range_row.RangeRow.{RangeRow}
 use Rattle.s10_rows.specs.declared.serial_row.SerialRow.{SerialRow}
 use Rattle.s10_rows.specs.declared.closed_row.ClosedRow.{ClosedRow}
 use Rattle.s10_rows.specs.CallRow.{StoredCall}
-use Rattle.s10_rows.specs.Replies.{reply_bytes}
+use Rattle.s10_wire.specs.Replies.{reply_bytes}
 
 -- The rows of the five tables.
 pub record Tables : Type 0 where

@@ -11,21 +11,12 @@ use Rattle.s10_rows.specs.Tables.{Tables}
 use Rattle.s10_rows.specs.RowWrites.{FindAtMostOne, is_at, row_of, with_range, with_ranges}
 use Rattle.s10_rows.specs.RowWrites.{with_serial, with_serials}
 use Rattle.s10_statements.specs.Shown.{HasTables}
-
-ranges_then : (ws : List RangeWrite) (w : RangeWrite) (rows : List RangeRow)
-    → with_ranges (ws ++ w ∷ []) rows ≡ with_range w (with_ranges ws rows)
-ranges_then [] w rows = refl
-ranges_then (x ∷ ws) w rows = ranges_then ws w (with_range x rows)
+use Rattle.s10_rows.proofs.Writing.{ranges_then, serials_then}
 
 ranges_more : (ws : List RangeWrite) (i : ℕ) (d : RangeWrite) (rows : List RangeRow) → i < length ws
     → with_ranges (take (i + 1) ws) rows ≡ with_range (get_or ws i d) (with_ranges (take i ws) rows)
 ranges_more ws i d rows within = ap (λ (l : List RangeWrite). with_ranges l rows)
     (take_more ws i d within) ∙ ranges_then (take i ws) (get_or ws i d) rows
-
-serials_then : (ws : List SerialWrite) (w : SerialWrite) (rows : List SerialRow)
-    → with_serials (ws ++ w ∷ []) rows ≡ with_serial w (with_serials ws rows)
-serials_then [] w rows = refl
-serials_then (x ∷ ws) w rows = serials_then ws w (with_serial x rows)
 
 serials_more : (ws : List SerialWrite) (i : ℕ) (d : SerialWrite) (rows : List SerialRow)
     → i < length ws → with_serials (take (i + 1) ws) rows ≡ with_serial (get_or ws i d)

@@ -15,11 +15,9 @@ use Rattle.s10_wire.specs.declared.outcome.Outcome.TheVariants.{NumberReused}
 use Rattle.s10_wire.specs.Kind.{fits}
 use Rattle.s10_wire.specs.Datagrams.{datagram, outcome_bytes, IsOutcome, Asks, Replies}
 use Rattle.s10_wire.proofs.Many.{length-spellings}
+use Rattle.s10_wire.proofs.Replies.{asked}
 
-abbrev asked_by : ℕ → ℕ → Body → Request
-asked_by customer number body = record { customer = customer; number = number; body = body }
-
-short_request : (c n : ℕ) (body : Body) → length (datagram 0 (asked_by c n body)) ≤ 28
+short_request : (c n : ℕ) (body : Body) → length (datagram 0 (asked c n body)) ≤ 28
 short_request c n (Grant h s t f l) = omega arith
 short_request c n (Draw s t) = omega arith
 short_request c n (Void x) = omega arith
@@ -32,7 +30,7 @@ request_is_short b q asks = let P : List ℕ → Type 0 = λ x. length x ≤ 28 
     subst P (sym asks.1) (short_request q.customer q.number q.body)
 
 short_reply : (c n : ℕ) (body : Body) (o : Outcome) → IsOutcome o → fits body o ≡ true
-    → length (datagram 0x80 (asked_by c n body) ++ outcome_bytes o) ≤ 230
+    → length (datagram 0x80 (asked c n body) ++ outcome_bytes o) ≤ 230
 short_reply c n (Grant h s t f l) (Granted range) ok fit = omega arith
 short_reply c n (Draw s t) (Drawn day id) ok fit = omega arith
 short_reply c n (Void x) Voided ok fit = omega arith

@@ -2,6 +2,7 @@ pub mod Bytes
 pub mod Rooms
 pub mod Identifiers
 pub mod Refusals
+pub mod Replies
 pub mod Asked
 pub mod Many
 pub mod Room

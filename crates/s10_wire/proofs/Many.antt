@@ -7,34 +7,15 @@ use Rattle.std.proofs.lemmas.List.{drop-drop, take_more, take_more_set, flat_map
 use Rattle.std.proofs.lemmas.List.Elements.{All-head, All-tail}
 use Rattle.s10_core.specs.declared.id.Id.{Id}
 use Rattle.s10_core.specs.Id.{IsId, spelling_of}
-use Rattle.s10_core.proofs.Decimals.{number_of-digits_of}
 use Rattle.s10_wire.specs.Ids.{IsCount, AreIds, spellings_of}
 use Rattle.s10_wire.specs.WireFault.{first_refusal, identifier_fields, is_identifier}
 use Rattle.s10_wire.specs.declared.wire_fault.WireFault.{WireFault}
 use Rattle.s10_wire.specs.declared.wire_fault.WireFault.TheVariants.{Field}
 use Rattle.s10_wire.proofs.Identifiers.{spelling_passes}
-use Rattle.s10_wire.proofs.Asked.{id_in}
 
 pub length-spellings : (ids : List Id) → length (spellings_of ids) ≡ 13 * length ids
 length-spellings [] = refl
 length-spellings (id ∷ ids) = omega (arith, length-spellings ids)
-
--- The first `count` identifiers of the bytes.
-pub ids_in : ℕ → List ℕ → List Id
-ids_in zero b = []
-ids_in (suc count) b = id_in b 0 ∷ ids_in count (drop 13 b)
-
-id_again : (id : Id) (rest : List ℕ) → IsId id → id_in (spelling_of id ++ rest) 0 ≡ id
-unfolding id_in
-id_again id rest ok = rw (number_of-digits_of id.serial ok.serial) refl
-
-pub ids_again : (ids : List Id) → All IsId ids → ids_in (length ids) (spellings_of ids) ≡ ids
-unfolding ids_in
-ids_again [] ok = refl
-ids_again (id ∷ ids) ok = rw (
-  id_again id (spellings_of ids) (All-head IsId id ids ok),
-  ids_again ids (All-tail IsId id ids ok),
-) refl
 
 -- None of the identifiers is refused.
 pub identifiers_pass : (at : ℕ) (b : List ℕ) (ids : List Id) (rest : List ℕ) → All IsId ids

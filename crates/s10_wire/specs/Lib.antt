@@ -4,3 +4,4 @@ pub mod Padding
 pub mod Kind
 pub mod Reply
 pub mod WireFault
+pub mod Replies

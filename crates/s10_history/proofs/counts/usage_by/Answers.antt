@@ -1,4 +1,4 @@
-use Rattle.std.proofs.Common.{◌≡◌, ◌∙◌, ◌≤◌, ◌<◌, ◌+◌, cond, refl, ap, arith}
+use Rattle.std.proofs.Common.{◌≡◌, ◌∙◌, ◌≤◌, ◌<◌, ◌+◌, refl, ap, arith}
 use Rattle.std.proofs.lemmas.Fn.{says_at}
 use Rattle.s10_history.specs.Issues.{id_at, last_issue_of}
 use Rattle.s10_history.proofs.Counting.{UsedBelow-step, UsedBelow-all, one_more}

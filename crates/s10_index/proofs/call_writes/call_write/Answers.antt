@@ -4,7 +4,7 @@ use Rattle.s10_wire.specs.Kind.{fits}
 use Rattle.s10_book.proofs.Fitting.{answer_fits}
 use Rattle.s10_wire.specs.Datagrams.{Replies}
 use Rattle.s10_rows.specs.Selected.{IsCall}
-use Rattle.s10_replay.proofs.Replies.{reply_replies}
+use Rattle.s10_wire.proofs.Replies.{reply_replies}
 use Rattle.s10_index.proofs.WrittenLemmas.{writes_call}
 use Rattle.s10_index.proofs.call_writes.call_write.Goals as goal
 

@@ -6,7 +6,7 @@ use Rattle.std.specs.HashMap.{spare, get}
 use Rattle.s10_history.specs.declared.issue.Issue.{Issue}
 use Rattle.s10_history.specs.declared.issuance.Issuance.{Issuance}
 use Rattle.s10_history.specs.Issues.{carried_by, issues_at, last_issuance_of}
-use Rattle.s10_ranges.proofs.Carrying.{upto_all, issue_within}
+use Rattle.s10_book.proofs.Carrying.{upto_all, issue_within}
 use Rattle.s10_index.specs.Keys.{same_id_key, id_key}
 use Rattle.s10_index.specs.LastIssues.{as_issue, issue_in_history}
 use Rattle.s10_index.proofs.Recording.{keys_tell, told_upto}

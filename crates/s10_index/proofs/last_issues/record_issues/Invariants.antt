@@ -2,7 +2,7 @@ use Rattle.std.proofs.Common.{◌≤◌, ◌+◌, List, ◌++◌, ◌∷◌, [],
 use Rattle.std.specs.HashMap.{spare}
 use Rattle.s10_history.specs.declared.entry.Entry.{Entry}
 use Rattle.s10_history.specs.Issues.{issues_of, carried_by}
-use Rattle.s10_ranges.proofs.Carrying.{issues_upto}
+use Rattle.s10_book.proofs.Carrying.{issues_upto}
 use Rattle.s10_index.specs.LastIssues.{HasLast}
 use Rattle.s10_index.proofs.last_issues.record_issues.Given as goal
 

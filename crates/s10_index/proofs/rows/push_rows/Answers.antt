@@ -6,7 +6,7 @@ use Rattle.s10_history.specs.declared.issuance.Issuance.{Issuance}
 use Rattle.s10_history.specs.Issues.{issues_at, carried_by}
 use Rattle.s10_book.proofs.Carried.{made_by}
 use Rattle.s10_rows.specs.declared.serial_row.SerialRow.{SerialRow}
-use Rattle.s10_ranges.proofs.Carrying.{issue_within}
+use Rattle.s10_book.proofs.Carrying.{issue_within}
 use Rattle.s10_index.specs.RowsFrom.{last_rows, serial_rows_from}
 use Rattle.s10_index.proofs.LastRows.{issues_left, left_first, left_next, left_none, parted_at}
 use Rattle.s10_index.proofs.LastRows.{grown}

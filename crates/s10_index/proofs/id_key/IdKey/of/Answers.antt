@@ -1,4 +1,4 @@
-use Rattle.std.proofs.Common.{◌∙◌, ℕ, ap, ap₂}
+use Rattle.std.proofs.Common.{ℕ, ap₂}
 use Rattle.s10_index.specs.declared.id_key.IdKey.{IdKey}
 use Rattle.s10_index.proofs.id_key.IdKey.of.Goals as goal
 

@@ -4,7 +4,7 @@ use Rattle.s10_history.specs.declared.issuance.Issuance.{Issuance}
 use Rattle.s10_history.specs.History.{ranges_of}
 use Rattle.s10_history.specs.Issues.{carried_by}
 use Rattle.s10_ranges.specs.Mirror.{MirrorsAt}
-use Rattle.s10_ranges.proofs.Carrying.{upto_all}
+use Rattle.s10_book.proofs.Carrying.{upto_all}
 use Rattle.s10_ranges.proofs.Moving.{move_mirrors}
 use Rattle.s10_ranges.proofs.ranges.Ranges.apply_moves.Goals as goal
 

@@ -6,7 +6,7 @@ use Rattle.s10_history.specs.Issues.{issues_of}
 use Rattle.s10_book.specs.Rules.{IsLegal, MayFollow}
 use Rattle.s10_ranges.specs.Mirror.{MirrorsAt}
 use Rattle.s10_ranges.specs.Moves.{AreMoves}
-use Rattle.s10_ranges.proofs.Carrying.{issues_upto}
+use Rattle.s10_book.proofs.Carrying.{issues_upto}
 use Rattle.s10_ranges.proofs.ranges.Ranges.apply_moves.Given as goal
 
 abbrev pub invariant-loop-next : goal.invariant-loop-next

@@ -1,6 +1,6 @@
 -- Defines what the bytes of a reply say, by their offsets: if they are the datagram of a reply,
 -- these are its request and its outcome.
-use Rattle.std.specs.Prelude.{ℕ, zero, suc, ◌+◌, ◌/◌, ◌==◌, if◌then◌else◌, List, [], ◌∷◌, ◌++◌}
+use Rattle.std.specs.Prelude.{ℕ, zero, suc, ◌+◌, ◌-◌, ◌/◌, ◌==◌, if◌then◌else◌, List, [], ◌∷◌, ◌++◌}
 use Rattle.std.specs.Prelude.{length, take, drop}
 use Rattle.s10_core.specs.declared.id.Id.{Id}
 use Rattle.s10_core.specs.Serial.{number_of}
@@ -40,21 +40,27 @@ abbrev pub ids_in : ℕ → List ℕ → List Id
 ids_in zero b = []
 ids_in (suc count) b = id_in b 0 ∷ ids_in count (drop 13 b)
 
--- The body, by the kind byte of the reply.
-unfoldable pub body_in : List ℕ → Body
-body_in b =
-    let code = byte b 3 in
-    if code == 0x81 then Grant (number b 12) (pair_in b 16) (pair_in b 18) (number b 20)
-    (number b 24)
-    else if code == 0x82 then Draw (pair_in b 12) (pair_in b 14)
-    else if code == 0x83 then Void (id_in b 12)
-    else if code == 0x85 then DrawMany (pair_in b 12) (pair_in b 14) (byte b 16)
-    else if code == 0x86 then Withdraw (number b 12)
+-- The body, by the code of its kind.
+unfoldable pub body_from : ℕ → List ℕ → Body
+body_from code b =
+    if code == 1 then Grant (number b 12) (pair_in b 16) (pair_in b 18) (number b 20) (number b 24)
+    else if code == 2 then Draw (pair_in b 12) (pair_in b 14)
+    else if code == 3 then Void (id_in b 12)
+    else if code == 5 then DrawMany (pair_in b 12) (pair_in b 14) (byte b 16)
+    else if code == 6 then Withdraw (number b 12)
     else Query (id_in b 12)
+
+-- The request in a datagram whose kind byte is the code with this mark added.
+abbrev pub request_from : ℕ → List ℕ → Request
+request_from mark b = record {
+  customer = number b 4;
+  number = number b 8;
+  body = body_from (byte b 3 - mark) b;
+}
 
 -- The request that the bytes reply to.
 abbrev pub request_in : List ℕ → Request
-request_in b = record { customer = number b 4; number = number b 8; body = body_in b }
+request_in b = request_from 0x80 b
 
 -- The status of a Query, by its code.
 abbrev pub status_in : ℕ → ℕ → Status
@@ -85,7 +91,7 @@ outcome_from k rest = if byte rest 0 == 0 then done_in k rest else refusal_in (b
 
 -- The outcome in the bytes of a reply.
 abbrev pub outcome_in : List ℕ → Outcome
-outcome_in b = let k = kind_of (body_in b) in outcome_from k (drop (request_length k) b)
+outcome_in b = let k = kind_of (request_in b).body in outcome_from k (drop (request_length k) b)
 
 -- The datagram of the reply to a request with an outcome.
 unfoldable pub reply_bytes : Request → Outcome → List ℕ
