@@ -10,7 +10,8 @@ use Rattle.s10_history.specs.declared.range.Range.{Range}
 use Rattle.s10_history.specs.History.{ranges_of, overlaps}
 use Rattle.s10_book.specs.Rules.{grant_answer}
 
-any_at : {A : Type 0} (b rest : Bool) (x : A) (o : Option A) → rest ≡ is_some o
+-- One more element of a search.
+pub any_at : {A : Type 0} (b rest : Bool) (x : A) (o : Option A) → rest ≡ is_some o
     → (b || rest) ≡ is_some (cond b (Some x) o)
 any_at true rest x o e = refl
 any_at false rest x o e = e

@@ -1,6 +1,6 @@
 -- One request applied to a history.
-use Rattle.std.proofs.Common.{◌≡◌, ℕ, Bool, true, false, cond, ◌||◌, eqb, List, [], ◌∷◌, ◌++◌, map}
-use Rattle.std.proofs.Common.{max, Option, Some, None, refl, sym, ap, ◌∙◌}
+use Rattle.std.proofs.Common.{◌≡◌, ℕ, Bool, true, false, cond, eqb, List, [], ◌∷◌, ◌++◌, map}
+use Rattle.std.proofs.Common.{max, Some, None, refl, sym, ap, ◌∙◌}
 use Rattle.std.specs.Prelude.{find, fold, is_some}
 use Rattle.std.specs.List.{list_any}
 use Rattle.std.proofs.lemmas.Bool.{and_from, eq-eqb, cond-true}
@@ -17,24 +17,21 @@ use Rattle.s10_history.specs.declared.entry.Entry.{Entry}
 use Rattle.s10_history.specs.History.{has_key, find_entry, day_of}
 use Rattle.s10_book.specs.Rules.{answer_of}
 use Rattle.s10_book.specs.Once.{same_key, entry_for, applied, applied_once}
-
-any_at : (b : Bool) (e : Entry) (rest : Bool) (o : Option Entry) → rest ≡ is_some o
-    → (b || rest) ≡ is_some (cond b (Some e) o)
-any_at true e rest o same = refl
-any_at false e rest o same = same
+use Rattle.s10_book.proofs.Granting.{any_at}
 
 -- The key of a request occurs among the requests if its call is kept.
-any_kept : (q : Request) (h : List Entry) → list_any (same_key q) (map (λ e. e.request) h)
+pub any_kept : (q : Request) (h : List Entry) → list_any (same_key q) (map (λ e. e.request) h)
     ≡ is_some (find_entry h q.customer q.number)
 any_kept q [] = refl
-any_kept q (e ∷ es) = any_at (has_key q.customer q.number e) e _ _ (any_kept q es)
+any_kept q (e ∷ es) = any_at (has_key q.customer q.number e) _ e _ (any_kept q es)
 
 one_at : (b : Bool) (h : List Entry) (n : ℕ) (p : Request × ℕ)
     → fold (applied n) h (cond b [] (p ∷ [])) ≡ cond b h (applied n h p)
 one_at true h n p = refl
 one_at false h n p = refl
 
-once_one : (h : List Entry) (q : Request) (t n : ℕ) → applied_once h ((q, t) ∷ []) n
+-- One request is applied if its key is new.
+pub once_one : (h : List Entry) (q : Request) (t n : ℕ) → applied_once h ((q, t) ∷ []) n
     ≡ cond (is_some (find_entry h q.customer q.number)) h (applied n h (q, t))
 once_one h q t n = one_at (list_any (same_key q) (map (λ e. e.request) h)) h n (q, t)
     ∙ ap (λ b. cond b h (applied n h (q, t))) (any_kept q h)

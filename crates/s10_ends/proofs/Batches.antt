@@ -1,5 +1,5 @@
 -- Lemmas about the parts of a batch.
-use Rattle.std.proofs.Common.{◌≡◌, ◌∙◌, ℕ, ◌<◌, ◌≤◌, Bool, true, false, List, [], ◌∷◌, ◌++◌}
+use Rattle.std.proofs.Common.{◌≡◌, ℕ, ◌<◌, ◌≤◌, true, List, [], ◌∷◌, ◌++◌}
 use Rattle.std.proofs.Common.{length, length-append, Option}
 use Rattle.std.proofs.Common.{Some, None, Result, Ok, Err, refl, sym, ap, subst, inl, inr, arith}
 use Rattle.std.specs.Prelude.{⊤, IsErrAnd}
@@ -17,7 +17,7 @@ use Rattle.s10_ends.specs.declared.answer.Answer.{Answer}
 use Rattle.s10_ends.specs.declared.answer.Answer.TheVariants.{Reply, Dropped, Faulted}
 use Rattle.s10_ends.specs.declared.exchange.Exchange.{Exchange}
 use Rattle.s10_ends.specs.declared.server_turn.ServerTurn.TheVariants as turns
-use Rattle.s10_ends.specs.Turn.{Turn, Handles, Commits, Takes, AsksCommitted, Answers}
+use Rattle.s10_ends.specs.Turn.{Turn, Handles, Takes, AsksCommitted, Answers}
 use Rattle.s10_ends.specs.Batch.{ReceivesAll, EndsReceiving, ReceivesBatch, ServesBatch}
 use Rattle.s10_ends.specs.Batch.{turns_of_batch, is_reply, HasCommittedReply, CommitsIfPending}
 use Rattle.s10_ends.specs.Served.{AskSomething, IsAnswered}

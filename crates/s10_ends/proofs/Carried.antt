@@ -1,7 +1,7 @@
 -- The identifiers that outcomes and replies carry, and their issues.
-use Rattle.std.proofs.Common.{◌≡◌, ◌∙◌, ℕ, zero, suc, ◌+◌, ◌*◌, Bool, List, [], ◌∷◌, ◌++◌, map}
+use Rattle.std.proofs.Common.{◌≡◌, ◌∙◌, ℕ, zero, suc, ◌+◌, ◌*◌, List, [], ◌∷◌, ◌++◌, map}
 use Rattle.std.proofs.Common.{take, drop, Option, Some, None, refl, sym, ap, inl, inr, arith, subst}
-use Rattle.std.specs.Prelude.{find, All, IsTrue, Contains, slice_get}
+use Rattle.std.specs.Prelude.{All, IsTrue, Contains, slice_get}
 use Rattle.std.specs.List.{AllZip}
 use Rattle.std.proofs.lemmas.Bool.{false≢true}
 use Rattle.std.proofs.lemmas.Option.{none-some, same_Some, slice_get_within, get_or_from_slice_get}
@@ -24,12 +24,12 @@ use Rattle.s10_history.specs.Settings.{Terms}
 use Rattle.s10_history.specs.History.{has_key, find_entry}
 use Rattle.s10_history.specs.Issues.{issues_from, issues_of, issues_at, carried_by}
 use Rattle.s10_book.proofs.Carried.{made_by}
-use Rattle.s10_history.proofs.Numbering.{find_cases}
 use Rattle.s10_ends.specs.declared.answer.Answer.{Answer}
 use Rattle.s10_ends.specs.declared.answer.Answer.TheVariants.{Reply, Dropped, Faulted}
 use Rattle.s10_ends.specs.Served.{Dated, GivesOutcome, IsOwed, IsAnswered, Served}
 use Rattle.s10_ends.specs.Runs.{text_at, HasIssue, IsIssued}
 use Rattle.s10_ends.proofs.Equal.{same_request_or_not}
+use Rattle.s10_book.proofs.Fitting.{found_place}
 
 Contains-map : {X Y : Type 0} (f : X → Y) (xs : List X) (x : X) → Contains xs x
     → Contains (map f xs) (f x)
@@ -41,15 +41,6 @@ Contains-map f xs x in' = (
 
 Contains-nothing : {X : Type 0} (x : X) → ¬ (Contains [] x)
 Contains-nothing x in' = omega (arith, in'.1)
-
-found_place : {A : Type 0} (p : A → Bool) (xs : List A) (x : A) → find p xs ≡ Some x
-    → (k : ℕ) × (slice_get xs k ≡ Some x)
-found_place p [] x found = absurd (none-some x found)
-found_place p (y ∷ ys) x found =
-    elim (find_cases p y x ys found) [
-      | inl w ↦ (0, ap Some w.1)
-      | inr w ↦ let there = found_place p ys x w.1 in (suc there.0, there.1)
-    ]
 
 -- A call of the history, at its index, which is that request and carries the identifier on the day.
 pub record IsCarrying (h : List Entry) (q : Request) (c : ℕ × Id) : Type 0 where

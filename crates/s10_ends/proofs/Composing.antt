@@ -1,5 +1,5 @@
 -- Lemmas about batches one after another.
-use Rattle.std.proofs.Common.{◌≡◌, ◌∙◌, refl, sym, ap, subst, ℕ, Bool, true, false, List, []}
+use Rattle.std.proofs.Common.{◌≡◌, ◌∙◌, refl, sym, ap, subst, ℕ, List, []}
 use Rattle.std.proofs.Common.{◌∷◌, ◌++◌}
 use Rattle.std.proofs.Common.{append-nil, append_assoc, map, Option, Result, Ok, Err, inl, inr}
 use Rattle.std.specs.Prelude.{All, Contains}
@@ -18,7 +18,7 @@ use Rattle.s10_ends.specs.declared.answer.Answer.{Answer}
 use Rattle.s10_ends.specs.declared.exchange.Exchange.{Exchange}
 use Rattle.s10_ends.specs.declared.server_turn.ServerTurn.TheVariants as turns
 use Rattle.s10_ends.specs.Served.{Dated, IsOwed, Served}
-use Rattle.s10_ends.specs.Turn.{Turn, Handles, Commits}
+use Rattle.s10_ends.specs.Turn.{Turn, Handles}
 use Rattle.s10_ends.specs.Batch.{ReceivesAll, ServesBatch, IsOwedReply, CommitsIfPending}
 use Rattle.s10_ends.specs.Batch.ReceivesAll.{none as taken_none, more as taken_more}
 use Rattle.s10_ends.specs.Composed.{DatedBatch, BatchesLead, turns_in, IsBatch, deliveries_in, answers_in}

@@ -1,5 +1,5 @@
 -- Two requests are equal or not.
-use Rattle.std.proofs.Common.{◌≡◌, ◌≢◌, ◌∙◌, ◌⊎◌, inl, inr, ℕ, List, [], ◌∷◌, refl, ap}
+use Rattle.std.proofs.Common.{◌≡◌, ◌≢◌, ◌⊎◌, inl, inr, ℕ, List, [], ◌∷◌, refl, ap}
 use Rattle.std.proofs.lemmas.Bool.Decides.{eqb_tells}
 use Rattle.s10_core.specs.declared.id.Id.{Id}
 use Rattle.s10_wire.specs.declared.body.Body.{Body}
@@ -20,24 +20,18 @@ same_or_not (x ∷ xs) (y ∷ ys) = elim (eqb_tells x y) [
 ]
 
 pair_one : (p q : ℕ × ℕ) → p.0 ≡ q.0 → p.1 ≡ q.1 → p ≡ q
-pair_one p q first second = ap (λ (x : ℕ). let r : ℕ × ℕ = (x, p.1) in r) first
-    ∙ ap (λ (y : ℕ). let r : ℕ × ℕ = (q.0, y) in r) second
+pair_one p q first second = λ k. (first k, second k)
 
 -- Two identifiers with equal numbers are equal.
 abbrev id_numbers : Id → List ℕ
 id_numbers x = x.service.0 ∷ x.service.1 ∷ x.serial ∷ x.country.0 ∷ x.country.1 ∷ []
 
-id_made : ℕ × ℕ → ℕ → ℕ × ℕ → Id
-id_made service serial country = record { service = service; serial = serial; country = country }
-
 id_one : (x y : Id) → id_numbers x ≡ id_numbers y → x ≡ y
-unfolding id_made
 id_one x y same =
     let service : x.service ≡ y.service = pair_one x.service y.service (cc) (cc) in
     let country : x.country ≡ y.country = pair_one x.country y.country (cc) (cc) in
     let serial : x.serial ≡ y.serial = cc in
-    let made : id_made x.service x.serial x.country ≡ id_made y.service y.serial y.country = cc in
-    made
+    λ k. record { service = service k; serial = serial k; country = country k }
 
 abbrev body_numbers : Body → List ℕ
 body_numbers (Grant holder service country first lst) = 0 ∷ holder ∷ service.0 ∷ service.1
@@ -70,18 +64,7 @@ body_one a b same = cc
 request_one : (p q : Request) → p.customer ≡ q.customer → p.number ≡ q.number → p.body ≡ q.body
     → p ≡ q
 request_one p q customer number body =
-    ap (λ (n : ℕ). let r : Request = record { customer = n; number = p.number; body = p.body } in
-    r) customer
-    ∙ ap (λ (n : ℕ). let r : Request = record {
-      customer = q.customer;
-      number = n;
-      body = p.body;
-    } in r) number
-    ∙ ap (λ (b : Body). let r : Request = record {
-      customer = q.customer;
-      number = q.number;
-      body = b;
-    } in r) body
+    λ k. record { customer = customer k; number = number k; body = body k }
 
 abbrev request_numbers : Request → List ℕ
 request_numbers q = q.customer ∷ q.number ∷ body_numbers q.body

@@ -1,5 +1,5 @@
 -- Lemmas about the number of receives of a batch.
-use Rattle.std.proofs.Common.{◌≡◌, ◌∙◌, refl, sym, ap, subst, ℕ, ◌+◌, ◌<◌, ◌≤◌, List, [], ◌∷◌, ◌++◌}
+use Rattle.std.proofs.Common.{◌≡◌, ◌∙◌, refl, ap, ℕ, ◌+◌, ◌≤◌, List, [], ◌∷◌, ◌++◌}
 use Rattle.std.proofs.Common.{length, length-append, Result, Ok, Err, cond, arith, inl, inr}
 use Rattle.std.specs.Prelude.{count_by, Option}
 use Rattle.std.proofs.lemmas.List.Sums.{fold_push}
@@ -8,7 +8,6 @@ use Rattle.s10_link.specs.declared.trace.Trace.{Trace}
 use Rattle.s10_link.specs.declared.peer.Peer.{Peer}
 use Rattle.s10_link.specs.declared.link_fault.LinkFault.{LinkFault}
 use Rattle.s10_link.specs.declared.link_fault.LinkFault.TheVariants.{Bind, Receive, Send, Spent}
-use Rattle.s10_link.specs.Link.{SendResult, Sends}
 use Rattle.s10_history.specs.declared.entry.Entry.{Entry}
 use Rattle.s10_history.specs.Settings.{Terms}
 use Rattle.s10_book.specs.declared.book_fault.BookFault.{BookFault}
@@ -16,7 +15,6 @@ use Rattle.s10_book.specs.declared.faults.Faults.{Faults}
 use Rattle.s10_ends.specs.declared.answer.Answer.{Answer}
 use Rattle.s10_ends.specs.declared.answer.Answer.TheVariants.{Reply, Dropped, Faulted}
 use Rattle.s10_ends.specs.declared.exchange.Exchange.{Exchange}
-use Rattle.s10_ends.specs.declared.server_turn.ServerTurn.TheVariants as turns
 use Rattle.s10_ends.specs.Turn.{Turn, Answers, SendsReply}
 use Rattle.s10_ends.specs.Batch.{ReceivesAll, EndsReceiving, AnswersAll, ServesBatch}
 use Rattle.s10_ends.specs.Batch.{is_failed_send, ReceivesAtMost, turns_of_batch}

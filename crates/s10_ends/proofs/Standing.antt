@@ -28,7 +28,7 @@ use Rattle.s10_ends.specs.declared.exchange.Exchange.{Exchange}
 use Rattle.s10_ends.specs.declared.server_turn.ServerTurn.TheVariants as turns
 use Rattle.s10_ends.specs.Served.{Dated, AskNothing, GivesOutcome, IsOwed, IsAnswered}
 use Rattle.s10_ends.specs.Served.{Served}
-use Rattle.s10_ends.specs.Turn.{Turn, Handles, Commits, AsksCommitted, SendsReply, WithholdsReply}
+use Rattle.s10_ends.specs.Turn.{Turn, Handles, AsksCommitted, SendsReply, WithholdsReply}
 use Rattle.s10_ends.specs.Turn.{Answers, sent_turn}
 use Rattle.s10_ends.specs.Batch.{ReceivesAll, AnswersAll, ServesBatch, IsSentCommitted}
 use Rattle.s10_ends.specs.Batch.{IsOwedReply, is_reply, turns_of_batch, CommitsIfPending}

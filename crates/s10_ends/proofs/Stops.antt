@@ -1,6 +1,6 @@
 -- Lemmas about what an opening may find after a stop.
-use Rattle.std.proofs.Common.{◌≡◌, ◌∙◌, refl, sym, ap, subst, ℕ, Bool, true, false, List, [], ◌∷◌}
-use Rattle.std.proofs.Common.{◌++◌, append-nil, append_assoc, map, Option, Some, Result, inl, inr}
+use Rattle.std.proofs.Common.{◌≡◌, ◌∙◌, refl, sym, ap, subst, ℕ, List, [], ◌∷◌}
+use Rattle.std.proofs.Common.{◌++◌, append-nil, map, Option, Some, Result, inl, inr}
 use Rattle.std.proofs.Common.{⊎_elim}
 use Rattle.std.proofs.lemmas.List.{map-append}
 use Rattle.std.proofs.lemmas.Option.{same_Some}
@@ -24,7 +24,7 @@ use Rattle.s10_ends.specs.Served.{Dated, IsOnce, Served, not_faulted}
 use Rattle.s10_ends.specs.Served.AreAsked.{none as asked_none, request as asked}
 use Rattle.s10_ends.specs.Stop.{AreSome, IsFoundAmong, StopsAfter}
 use Rattle.s10_ends.specs.Stop.AreSome.{none, without, with}
-use Rattle.s10_ends.specs.Turn.{Turn, Handles, Commits}
+use Rattle.s10_ends.specs.Turn.{Turn, Handles}
 use Rattle.s10_ends.specs.Batch.{ReceivesAll, ServesBatch, CommitsIfPending}
 use Rattle.s10_ends.specs.Batch.ReceivesAll.{none as taken_none, more as taken_more}
 use Rattle.s10_ends.specs.Composed.{BatchesLead, turns_in, IsBatch, DatedBatch, deliveries_in, answers_in}
@@ -32,8 +32,7 @@ use Rattle.s10_ends.specs.Composed.{SurvivesStop}
 use Rattle.s10_ends.proofs.Whole.{IsOnce-append, grows, of_history}
 use Rattle.s10_ends.proofs.Standing.{all_sent}
 use Rattle.s10_ends.proofs.Composing.{all_composed, all_more, upto_taken, upto_batch, Upto, here}
-use Rattle.s10_ends.proofs.Composing.{honest_taken, honest_batch, honest_batches, packets}
-use Rattle.s10_ends.proofs.Composing.{answers_of}
+use Rattle.s10_ends.proofs.Composing.{honest_taken, honest_batch}
 
 pub some_none : (ds : List Dated) → AreSome [] ds
 some_none [] = none

@@ -22,6 +22,7 @@ use Rattle.s10_ends.specs.declared.answer.Answer.TheVariants.{Reply, Dropped, Fa
 use Rattle.s10_ends.specs.Served.{Dated, AreAsked, IsOnce, GivesOutcome, IsOwed, IsReplyIn}
 use Rattle.s10_ends.specs.Served.{IsAnswered, IsFullFor, is_faulted, not_faulted, Served}
 use Rattle.s10_ends.specs.Served.AreAsked.{none, nothing, request}
+use Rattle.std.proofs.lemmas.List.Sums.{fold-append}
 
 requests : List Entry → List Request
 requests h = map (λ e. e.request) h
@@ -67,17 +68,12 @@ applied_requests n h (p ∷ ps) =
     applied_requests n (applied n h p) ps ∙ ap (λ l. l ++ asking ps) (map_append h _)
     ∙ append_assoc (of_history h) (p.0 ∷ []) (asking ps)
 
-fold_append : {A B : Type 0} (f : B → A → B) (a : B) (xs ys : List A) → fold f a (xs ++ ys)
-    ≡ fold f (fold f a xs) ys
-fold_append f a [] ys = refl
-fold_append f a (x ∷ xs) ys = fold_append f (f a x) xs ys
-
 -- Applying two lists is applying one and then the other.
 pub applied_once-append : (h : List Entry) (ps qs : List (Request × ℕ)) (n : ℕ)
     → applied_once h (ps ++ qs) n ≡ applied_once (applied_once h ps n) qs n
 applied_once-append h ps qs n =
     ap (fold (applied n) h) (first_arrivals-append (of_history h) ps qs)
-    ∙ fold_append (applied n) h (first_arrivals (of_history h) ps)
+    ∙ fold-append (applied n) h (first_arrivals (of_history h) ps)
     (first_arrivals (of_history h ++ asking (first_arrivals (of_history h) ps)) qs)
     ∙ ap (λ s. fold (applied n) (applied_once h ps n) (first_arrivals s qs))
     (sym (applied_requests n h (first_arrivals (of_history h) ps)))

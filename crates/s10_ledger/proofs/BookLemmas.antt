@@ -20,7 +20,7 @@ use Rattle.s10_book.specs.Book.{FindsAfter}
 use Rattle.s10_book.proofs.Calls.{grows_same}
 use Rattle.s10_ledger.specs.Ledger.{Ledger, IsLedger, IsHonest, HoldsCalls, IsFoundInTrees}
 use Rattle.s10_ledger.specs.Ledger.{LeavesUnchanged, MayFindAlso, LeavesCommitted, history_in}
-use Rattle.s10_ledger.specs.Ledger.{history_of, committed_of, IsOverCleanDisk, MayFind}
+use Rattle.s10_ledger.specs.Ledger.{history_of, IsOverCleanDisk, MayFind}
 use Rattle.s10_ledger.specs.Found.{one_found}
 use Rattle.s10_statements.proofs.CrashLemmas.{either}
 use Rattle.s10_statements.proofs.Apart.{is_ledger-prop, is_closed-prop}

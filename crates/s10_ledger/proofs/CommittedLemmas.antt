@@ -1,5 +1,5 @@
 -- Whether the call of a key is committed.
-use Rattle.std.proofs.Common.{◌≡◌, ℕ, suc, ◌↔◌, Bool, true, false, cond, not, ◌||◌, IsTrue, List}
+use Rattle.std.proofs.Common.{◌≡◌, ℕ, suc, ◌↔◌, Bool, true, false, not, ◌||◌, IsTrue, List}
 use Rattle.std.proofs.Common.{[], ◌∷◌, ◌++◌, get_or, Option, Some, None, refl, sym, ap, ◌∙◌, arith}
 use Rattle.std.specs.Prelude.{find, is_some, AllPairs}
 use Rattle.std.specs.List.{list_any}
@@ -13,6 +13,7 @@ use Rattle.s10_book.specs.GroupCommit.{IsCommittedCall}
 use Rattle.s10_book.specs.Rules.{IsLegal}
 use Rattle.s10_rows.specs.declared.call_write.CallWrite.{CallWrite}
 use Rattle.s10_ledger.specs.Pending.{calls_of}
+use Rattle.s10_book.proofs.Granting.{any_find}
 
 -- A test of the calls of these writes.
 pub any_call : (test : Entry → Bool) (ws : List CallWrite) → list_any test (calls_of ws)
@@ -20,17 +21,10 @@ pub any_call : (test : Entry → Bool) (ws : List CallWrite) → list_any test (
 any_call test [] = refl
 any_call test (w ∷ ws) = ap (λ b. test w.entry || b) (any_call test ws)
 
-any_at : (b : Bool) (e : Entry) (rest : Bool) (o : Option Entry) → rest ≡ is_some o
-    → (b || rest) ≡ is_some (cond b (Some e) o)
-any_at true e rest o same = refl
-any_at false e rest o same = same
-
 -- A call is found if one has its key.
 found_if_any : (customer number : ℕ) (h : List Entry) → list_any (has_key customer number) h
     ≡ is_some (find_entry h customer number)
-found_if_any customer number [] = refl
-found_if_any customer number (e ∷ es) = any_at (has_key customer number e) e _ _
-    (found_if_any customer number es)
+found_if_any customer number h = any_find (has_key customer number) h
 
 -- No two calls have the same key.
 abbrev HaveDistinctKeys : List Entry → Type 0

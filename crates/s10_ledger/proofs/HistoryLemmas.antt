@@ -12,12 +12,12 @@ use Rattle.s10_replay.specs.RightRows.{entry_of}
 use Rattle.s10_rows.specs.Tables.{HaveSameRows, call_row, call_rows, call_rows_from}
 use Rattle.s10_rows.specs.Selected.{IsCall, arrives_between}
 use Rattle.s10_statements.specs.Shown.{StandsFor, shown_call, call_columns}
-use Rattle.s10_ledger.specs.Ledger.{call_from, in_turn, history_in}
+use Rattle.s10_ledger.specs.Ledger.{in_turn, history_in}
+use Rattle.s10_statements.specs.Shown.{call_from}
 use Rattle.s10_replay.proofs.SameRows.{same_length}
 use Rattle.s10_replay.proofs.Calls.{entry_of-call_row}
 use Rattle.s10_replay.proofs.CallRows.{AreThose, selected_by_place}
-use Rattle.s10_statements.proofs.ReadLemmas.{again}
-use Rattle.sqlite_keyed.proofs.ListLemmas.{IsPermutation-filter}
+use Rattle.sqlite_keyed.proofs.ListLemmas.{IsPermutation-filter, map_back}
 
 -- The rows of one arrival are the row of its call.
 abbrev IsAt : List StoredCall → ℕ → Entry → Type 0
@@ -68,7 +68,7 @@ calls_history db h all shown =
     kept_history h (map call_from (map call_columns (db.trees 1))) all
     (∥∥₁_map shown
     (λ p. subst (λ l. IsPermutation l (map call_from (map call_columns (db.trees 1))))
-    (again shown_call call_from (λ c. refl) (call_rows h)) (IsPermutation-map call_from _ _ p)))
+    (map_back shown_call call_from (λ c. refl) (call_rows h)) (IsPermutation-map call_from _ _ p)))
 
 pub history_is : (db : Database) (h : List Entry) (t : Terms) → All IsCall h → StandsFor db h t
     → history_in db ≡ h

@@ -13,7 +13,7 @@ use Rattle.std.proofs.lemmas.List.{take-map, length-take-le}
 use Rattle.std.proofs.lemmas.List.Elements.{All-head, All-tail}
 use Rattle.std.proofs.lemmas.List.Sorted.{IsPermutation-map, IsPermutation-trans, IsPermutation-sym}
 use Rattle.std.proofs.lemmas.Option.{none-some, same_Some, slice_get_within}
-use Rattle.sqlite_value.specs.Order.{Row, column}
+use Rattle.sqlite_value.specs.Order.{Row}
 use Rattle.sqlite_trees.specs.Tree.{IsAscending}
 use Rattle.sqlite_keyed.proofs.SortLemmas.{sorted_unique}
 use Rattle.sqlite.specs.Effect.{Database}
@@ -30,7 +30,6 @@ use Rattle.s10_rows.specs.declared.open_fault.OpenFault.TheVariants.{NotEmpty, M
 use Rattle.s10_rows.specs.contracts.head_row.HeadRow as head
 use Rattle.s10_rows.specs.contracts.call_row.CallRow as call
 use Rattle.s10_rows.specs.CallRow.{StoredCall}
-use Rattle.s10_rows.specs.declared.closed_row.ClosedRow.{ClosedRow}
 use Rattle.s10_rows.specs.Tables.{Tables, HaveSameRows, tables_of, head_row, call_row}
 use Rattle.s10_rows.specs.Tables.{call_rows_from, call_rows, range_rows, serial_rows, closed_rows}
 use Rattle.s10_replay.specs.RightRows.{IsRightRow, AreRight, kept_of, entry_of}
@@ -44,20 +43,13 @@ use Rattle.s10_ledger.specs.declared.opening.table_layout.TableLayout.{TableLayo
 use Rattle.s10_ledger.specs.declared.opening.table_layout.TableLayout.TheVariants.{Whole, Old}
 use Rattle.s10_ledger.specs.TableLayout.{HasTableLayout}
 use Rattle.s10_ledger.proofs.Forms.{AreShown, four_lack, form_declared, form_shown}
-use Rattle.s10_statements.proofs.AnswerLemmas.{int_in, call_from, range_from, serial_from}
-use Rattle.s10_statements.proofs.ReadLemmas.{again}
+use Rattle.s10_statements.specs.Shown.{head_from, call_from, range_from, serial_from}
+use Rattle.s10_statements.specs.Shown.{closed_from}
 use Rattle.s10_replay.proofs.SameRows.{one_row}
 use Rattle.s10_rows.proofs.Replaced.{same_rows}
 use Rattle.s10_replay.proofs.Calls.{entry_of-call_row, row_replies}
 use Rattle.s10_ledger.proofs.Rising.{call_rows_rise}
-
-abbrev head_from : Row → HeadRow
-head_from v = record {
-  one = int_in (column v 0);
-  schema = int_in (column v 1);
-  interval = int_in (column v 2);
-  cap = int_in (column v 3);
-}
+use Rattle.sqlite_keyed.proofs.ListLemmas.{map_back}
 
 -- Rows that SQL shows the same way are the same.
 same_typed : {X : Type 0} (shown : X → Row) (read : Row → X) → ((x : X) → read (shown x) ≡ x)
@@ -68,7 +60,7 @@ same_typed shown read back xs ys vs p q =
     ∥∥₁_elim p ∥∥₁_prop (λ a. ∥∥₁_map q (λ b.
     let both : IsPermutation (map shown xs) (map shown ys) =
     IsPermutation-trans _ _ _ a (IsPermutation-sym _ _ b) in
-    rw (again shown read back xs, again shown read back ys) at (IsPermutation-map read _ _ both)))
+    rw (map_back shown read back xs, map_back shown read back ys) at (IsPermutation-map read _ _ both)))
 
 -- Rows in order of arrival.
 
@@ -160,9 +152,6 @@ same_settings t u n e =
     let a : t.interval ≡ u.interval = same_number _ _ (ap (λ (r : HeadRow). r.interval) e) in
     let b : t.limit ≡ u.limit = same_number _ _ (ap (λ (r : HeadRow). r.cap) e) in
     (λ i. record { interval = a i; limit = b i }, ap (λ (r : HeadRow). r.schema) e)
-
-abbrev closed_from : Row → ClosedRow
-closed_from v = record { num = int_in (column v 0); arrival = int_in (column v 1) }
 
 -- The rows of closed are the same in either layout.
 closed_same : (f g : TableLayout) (db : Database) (a b : Tables) → HasTableLayout f db a

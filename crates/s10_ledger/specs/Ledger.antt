@@ -1,11 +1,8 @@
 -- Defines what a ledger in tables holds, and when it is honest.
-use Rattle.std.specs.Prelude.{◌≡◌, ◌⊎◌, ℕ, zero, suc, ◌+◌, ◌-◌, ◌^◌, ◌≤◌, min, ℤ, pos, IsTrue}
+use Rattle.std.specs.Prelude.{◌≡◌, ◌⊎◌, ℕ, zero, suc, ◌+◌, ◌-◌, ◌^◌, ◌≤◌, min, pos, IsTrue}
 use Rattle.std.specs.Prelude.{List, [], ◌++◌}
 use Rattle.std.specs.Prelude.{length, map, filter, All, Option, Some, None, refl}
 use Rattle.std.specs.Coded.{Coded, code_by, coded×, coded_ℕ, coded_list}
-use Rattle.sqlite_value.specs.declared.value.Value.{Value}
-use Rattle.sqlite_value.specs.declared.value.Value.TheVariants.{Null, Int, Real, Text, Blob}
-use Rattle.sqlite_value.specs.Order.{Row, column}
 use Rattle.sqlite_trees.specs.Tree.{Trees}
 use Rattle.sqlite_trees.specs.declared.store.Store.{Ghosts}
 use Rattle.sqlite.specs.Effect.{Database}
@@ -25,33 +22,7 @@ use Rattle.s10_replay.specs.RightRows.{entry_of}
 use Rattle.s10_rows.specs.Selected.{IsCall, arrives_between}
 use Rattle.s10_rows.specs.Tables.{tables_of}
 use Rattle.s10_schema.specs.Schema.{ledger_schema}
-use Rattle.s10_statements.specs.Shown.{HasOldTables, StandsFor, call_columns}
-
--- The integer of a value, 0 for a value of another type.
-abbrev pub int_in : Value → ℤ
-int_in Null = pos 0
-int_in (Int n) = n
-int_in (Real x) = pos 0
-int_in (Text t) = pos 0
-int_in (Blob b) = pos 0
-
--- The bytes of a value, none for a value of another type.
-abbrev pub blob_in : Value → List ℕ
-blob_in Null = []
-blob_in (Int n) = []
-blob_in (Real x) = []
-blob_in (Text t) = []
-blob_in (Blob b) = b
-
--- The row of calls that SQL shows so.
-abbrev pub call_from : Row → StoredCall
-call_from v = record {
-  arrival = int_in (column v 0);
-  customer = int_in (column v 1);
-  number = int_in (column v 2);
-  day = int_in (column v 3);
-  reply = blob_in (column v 4);
-}
+use Rattle.s10_statements.specs.Shown.{HasOldTables, StandsFor, call_columns, call_from}
 
 -- The calls with one of n successive arrivals, of which the first is the given one, in order of
 -- arrival.

@@ -1,11 +1,10 @@
 -- What the reads of a ledger's tables show.
-use Rattle.std.proofs.Common.{◌≡◌, ℕ, ℤ, pos, List, [], ◌∷◌, ◌&&◌, Bool, true, false, map, filter}
+use Rattle.std.proofs.Common.{◌≡◌, ℕ, ℤ, List, [], ◌∷◌, ◌&&◌, Bool, true, false, map, filter}
 use Rattle.std.proofs.Common.{refl, sym, ap, subst, ◌∙◌, int_cmp, int_eq, int_le, Less}
 use Rattle.std.specs.List.{list_all}
 use Rattle.std.specs.List.Sorted.{IsPermutation}
 use Rattle.sqlite_value.specs.declared.keys.Collation.TheVariants.{Binary}
-use Rattle.sqlite_value.specs.declared.value.Value.{Value}
-use Rattle.sqlite_value.specs.declared.value.Value.TheVariants.{Null, Int, Real, Text, Blob}
+use Rattle.sqlite_value.specs.declared.value.Value.TheVariants.{Null, Int}
 use Rattle.sqlite_value.specs.Order.{Row, column, value_cmp}
 use Rattle.sqlite_value.proofs.OrderLemmas.{value_cmp-Int}
 use Rattle.sqlite_trees.specs.Tree.{IsAscending}
@@ -28,7 +27,7 @@ use Rattle.s10_schema.specs.Schema.{IsLedgerSchema, IsClosedSchema}
 use Rattle.s10_schema.specs.Schema.{others_in, others_after_closed}
 use Rattle.s10_statements.specs.Shown.{shown_call, shown_range, shown_serial, shown_closed}
 use Rattle.s10_statements.specs.Shown.{head_columns, call_columns, range_columns, serial_columns}
-use Rattle.s10_statements.specs.Shown.{closed_columns}
+use Rattle.s10_statements.specs.Shown.{closed_columns, serial_from}
 use Rattle.s10_rows.specs.Selected.{is_within}
 use Rattle.s10_statements.specs.Statements.{select_head_sql, select_calls_sql, select_ranges_sql}
 use Rattle.s10_statements.specs.Statements.{select_serials_within_sql, select_serials_sql}
@@ -38,56 +37,6 @@ use Rattle.s10_statements.proofs.Texts.{call_terms, calls_query, calls_read, ran
 use Rattle.s10_statements.proofs.Texts.{ranges_read, within_tests, serial_terms, within_read}
 use Rattle.s10_statements.proofs.Texts.{wide_terms, serials_read, closed_terms, closed_read}
 use Rattle.s10_statements.proofs.ReadLemmas.{kept_are, rows_are, rows_rise, selected}
-
--- Values that are read back.
-
-abbrev pub int_in : Value → ℤ
-int_in Null = pos 0
-int_in (Int n) = n
-int_in (Real x) = pos 0
-int_in (Text t) = pos 0
-int_in (Blob b) = pos 0
-
-abbrev pub blob_in : Value → List ℕ
-blob_in Null = []
-blob_in (Int n) = []
-blob_in (Real x) = []
-blob_in (Text t) = []
-blob_in (Blob b) = b
-
-abbrev pub call_from : Row → StoredCall
-call_from v = record {
-  arrival = int_in (column v 0);
-  customer = int_in (column v 1);
-  number = int_in (column v 2);
-  day = int_in (column v 3);
-  reply = blob_in (column v 4);
-}
-
-abbrev pub range_from : Row → RangeRow
-range_from v = record {
-  num = int_in (column v 0);
-  holder = int_in (column v 1);
-  pair = int_in (column v 2);
-  low = int_in (column v 3);
-  high = int_in (column v 4);
-  mark =
-      int_in (column v 5);
-}
-
-abbrev pub serial_from : Row → SerialRow
-serial_from v = record {
-  pair = int_in (column v 0);
-  serial = int_in (column v 1);
-  arrival = int_in (column v 2);
-  day = int_in (column v 3);
-  customer = int_in (column v 4);
-  number = int_in (column v 5);
-  voided = int_in (column v 6);
-}
-
-abbrev pub closed_from : Row → ClosedRow
-closed_from v = record { num = int_in (column v 0); arrival = int_in (column v 1) }
 
 abbrev pub wide_columns : Row → Row
 wide_columns r = column r 1 ∷ column r 2 ∷ column r 3 ∷ column r 4 ∷ column r 5 ∷ column r 6

@@ -1,5 +1,5 @@
 -- The tables after those of a ledger have no part in its writes.
-use Rattle.std.proofs.Common.{◌≡◌, ℕ, ◌==◌, Bool, true, false, not, ◌&&◌, ◌||◌, cond, List, [], ◌∷◌}
+use Rattle.std.proofs.Common.{◌≡◌, ℕ, ◌==◌, Bool, true, false, not, ◌&&◌, cond, List, [], ◌∷◌}
 use Rattle.std.proofs.Common.{length, Option, Some, None, refl, sym, subst, ◌∙◌}
 use Rattle.std.specs.Prelude.{IfSome, find, filter_map, flat_map, option_map, option_and_then}
 use Rattle.std.specs.Prelude.{codes, drop}
@@ -24,6 +24,7 @@ use Rattle.s10_schema.specs.Schema.{IsLedgerSchema, IsClosedSchema, with_others,
 use Rattle.s10_schema.specs.Schema.{closed_first, others_after_closed, is_own_tree, is_own_name}
 use Rattle.s10_schema.specs.Schema.{refer_apart, refer_apart_from_closed, are_apart}
 use Rattle.s10_schema.specs.Schema.{are_apart_from_closed, index_apart}
+use Rattle.std.proofs.lemmas.Bool.{and_parts, not-true, or_parts}
 
 pub is_ledger-prop : (s : Schema) (a b : IsLedgerSchema s) → a ≡ b
 is_ledger-prop s a b =
@@ -49,19 +50,6 @@ is_as_it_was s t has e = subst IsClosedSchema (has.is ∙ sym e) has
 pub after_apart : (s : Schema) → IsClosedSchema s → are_apart (others_after_closed s).tables ≡ true
 after_apart s has = subst (λ (x : Schema). are_apart (drop 4 x.tables) ≡ true) has.is
     has.ledger.tables
-
-not_true : (b : Bool) → not b ≡ true → b ≡ false
-not_true true h = absurd (let e = h in cc)
-not_true false h = refl
-
-both : (a b : Bool) → (a && b) ≡ true → (a ≡ true) × (b ≡ true)
-both true true h = (refl, refl)
-both true false h = absurd (let e = h in cc)
-both false b h = absurd (let e = h in cc)
-
-neither : (a b : Bool) → (a || b) ≡ false → (a ≡ false) × (b ≡ false)
-neither true b h = absurd (let e = h in cc)
-neither false b h = (refl, h)
 
 abbrev Misses : ℕ → Option ParentKey → Type 0
 Misses tree key = IfSome key (λ k. (k.0 == tree) ≡ false)
@@ -96,15 +84,15 @@ no_work_by depth tree moves child ref (Some deed) (Some key) e = rw e refl
 each_of : {X : Type 0} (p : X → Bool) (P : X → Type 0) → ((x : X) → p x ≡ true → P x)
     → (xs : List X) → list_all p xs ≡ true → AllByRecursion P xs
 each_of p P says [] h = tt
-each_of p P says (x ∷ xs) h = let b = both (p x) (list_all p xs) h in
+each_of p P says (x ∷ xs) h = let b = and_parts (p x) (list_all p xs) h in
     (says x b.0, each_of p P says xs b.1)
 
 each_of_both : {X : Type 0} (p q : X → Bool) (P : X → Type 0) → ((x : X) → p x ≡ true → q x ≡ true
     → P x) → (xs : List X) → list_all p xs ≡ true → list_all q xs ≡ true → AllByRecursion P xs
 each_of_both p q P says [] g h = tt
 each_of_both p q P says (x ∷ xs) g h =
-    let a = both (p x) (list_all p xs) g in
-    let b = both (q x) (list_all q xs) h in
+    let a = and_parts (p x) (list_all p xs) g in
+    let b = and_parts (q x) (list_all q xs) h in
     (says x a.0 b.0, each_of_both p q P says xs a.1 b.1)
 
 found_elsewhere : (tree : ℕ) (p : Table → Bool) (ts : List Table)
@@ -141,9 +129,9 @@ past_four : (o : Schema) (ref : Reference) → is_own_name ref.parent ≡ false
     → find (λ t. same_name t.name ref.parent) (with_others o).tables
     ≡ find (λ t. same_name t.name ref.parent) o.tables
 past_four o ref other =
-    let a = neither (same_name (codes "head") ref.parent) _ other in
-    let b = neither (same_name (codes "calls") ref.parent) _ a.1 in
-    let c = neither (same_name (codes "ranges") ref.parent) (same_name (codes "serials") ref.parent)
+    let a = or_parts (same_name (codes "head") ref.parent) _ other in
+    let b = or_parts (same_name (codes "calls") ref.parent) _ a.1 in
+    let c = or_parts (same_name (codes "ranges") ref.parent) (same_name (codes "serials") ref.parent)
     b.1 in
     rw (a.0, b.0, c.0, c.1) refl
 
@@ -164,8 +152,8 @@ no_works_closed o apart past keys depth olds news = no_work_in 6 (with_closed o)
   where
     elsewhere : AllByRecursion (Elsewhere 6) o.tables
     elsewhere = each_of _ (Elsewhere 6)
-        (λ t h. not_true (t.tree == 6)
-        (both (not (t.tree == 6)) (refer_apart_from_closed t.references) h).0) o.tables past
+        (λ t h. not-true (t.tree == 6)
+        (and_parts (not (t.tree == 6)) (refer_apart_from_closed t.references) h).0) o.tables past
 
     misses : (ref : Reference) → not (is_own_name ref.parent) ≡ true
         → not (same_name (codes "closed") ref.parent) ≡ true
@@ -173,8 +161,8 @@ no_works_closed o apart past keys depth olds news = no_work_in 6 (with_closed o)
     misses ref other fifth =
         of_parent 6 ref (find (λ t. same_name t.name ref.parent) (with_closed o).tables)
         (subst (λ f. IfSome f (Elsewhere 6))
-        (sym (past_closed o ref (not_true (is_own_name ref.parent) other)
-        (not_true (same_name (codes "closed") ref.parent) fifth)))
+        (sym (past_closed o ref (not-true (is_own_name ref.parent) other)
+        (not-true (same_name (codes "closed") ref.parent) fifth)))
         (found_elsewhere 6 (λ t. same_name t.name ref.parent) o.tables elsewhere))
 
     points : (t : Table) → (not (is_own_tree t.tree) && refer_apart t.references) ≡ true
@@ -182,8 +170,8 @@ no_works_closed o apart past keys depth olds news = no_work_in 6 (with_closed o)
         → PointsElsewhere 6 (with_closed o).tables t
     points t own fifth =
         each_of_both _ _ (λ ref. Misses 6 (parent_key (with_closed o).tables ref)) misses
-        t.references (both (not (is_own_tree t.tree)) (refer_apart t.references) own).1
-        (both (not (t.tree == 6)) (refer_apart_from_closed t.references) fifth).1
+        t.references (and_parts (not (is_own_tree t.tree)) (refer_apart t.references) own).1
+        (and_parts (not (t.tree == 6)) (refer_apart_from_closed t.references) fifth).1
 
 module _ (tree : ℕ) (own : (n : ℕ) → is_own_tree n ≡ false → (n == tree) ≡ false) where
   module _ (o : Schema) (apart : are_apart o.tables ≡ true) (keys : Keys) (depth : ℕ)
@@ -191,7 +179,7 @@ module _ (tree : ℕ) (own : (n : ℕ) → is_own_tree n ≡ false → (n == tre
     elsewhere : AllByRecursion (Elsewhere tree) o.tables
     elsewhere = each_of _ (Elsewhere tree)
         (λ t h. own t.tree
-        (not_true (is_own_tree t.tree) (both (not (is_own_tree t.tree)) (refer_apart t.references)
+        (not-true (is_own_tree t.tree) (and_parts (not (is_own_tree t.tree)) (refer_apart t.references)
         h).0)) o.tables apart
 
     misses : (ref : Reference) → not (is_own_name ref.parent) ≡ true
@@ -199,13 +187,13 @@ module _ (tree : ℕ) (own : (n : ℕ) → is_own_tree n ≡ false → (n == tre
     misses ref other =
         of_parent tree ref (find (λ t. same_name t.name ref.parent) (with_others o).tables)
         (subst (λ f. IfSome f (Elsewhere tree))
-        (sym (past_four o ref (not_true (is_own_name ref.parent) other)))
+        (sym (past_four o ref (not-true (is_own_name ref.parent) other)))
         (found_elsewhere tree (λ t. same_name t.name ref.parent) o.tables elsewhere))
 
     points : (t : Table) → (not (is_own_tree t.tree) && refer_apart t.references) ≡ true
         → PointsElsewhere tree (with_others o).tables t
     points t h = each_of _ (λ ref. Misses tree (parent_key (with_others o).tables ref)) misses
-        t.references (both (not (is_own_tree t.tree)) (refer_apart t.references) h).1
+        t.references (and_parts (not (is_own_tree t.tree)) (refer_apart t.references) h).1
 
     -- No foreign key acts on a write of that table.
     pub no_works : works (with_others o) keys depth tree olds news ≡ []
@@ -223,18 +211,18 @@ module _ (tree : ℕ) (own : (n : ℕ) → is_own_tree n ≡ false → (n == tre
       → list_any (shares target table new row) is ≡ false
   none_shares target table at new row [] h = refl
   none_shares target table at new row (i ∷ is) h =
-      let b = both (not (is_own_tree i.table)) (index_apart is) h in
-      rw (no_guard i table at (not_true (is_own_tree i.table) b.0))
+      let b = and_parts (not (is_own_tree i.table)) (index_apart is) h in
+      rw (no_guard i table at (not-true (is_own_tree i.table) b.0))
       (none_shares target table at new row is b.1)
 
 pub not_head : (n : ℕ) → is_own_tree n ≡ false → (n == 0) ≡ false
-not_head n h = (neither (n == 0) _ h).0
+not_head n h = (or_parts (n == 0) _ h).0
 
 pub not_calls : (n : ℕ) → is_own_tree n ≡ false → (n == 1) ≡ false
-not_calls n h = (neither (n == 1) _ (neither (n == 0) _ h).1).0
+not_calls n h = (or_parts (n == 1) _ (or_parts (n == 0) _ h).1).0
 
 pub not_ranges : (n : ℕ) → is_own_tree n ≡ false → (n == 3) ≡ false
-not_ranges n h = (neither (n == 3) _ (neither (n == 1) _ (neither (n == 0) _ h).1).1).0
+not_ranges n h = (or_parts (n == 3) _ (or_parts (n == 1) _ (or_parts (n == 0) _ h).1).1).0
 
 pub not_serials : (n : ℕ) → is_own_tree n ≡ false → (n == 4) ≡ false
-not_serials n h = (neither (n == 3) _ (neither (n == 1) _ (neither (n == 0) _ h).1).1).1
+not_serials n h = (or_parts (n == 3) _ (or_parts (n == 1) _ (or_parts (n == 0) _ h).1).1).1

@@ -11,7 +11,7 @@ use Rattle.sqlite_value.specs.Order.{Row, value_cmp}
 use Rattle.sqlite_value.proofs.OrderLemmas.{value_cmp-Int}
 use Rattle.sqlite_trees.specs.Tree.{IsAscending}
 use Rattle.sqlite_keyed.proofs.ListLemmas.{all_weaker, map-map, ascending_from_map}
-use Rattle.sqlite_keyed.proofs.ListLemmas.{ascending_weaker}
+use Rattle.sqlite_keyed.proofs.ListLemmas.{ascending_weaker, all-map}
 use Rattle.sqlite_sql.specs.Query.{Output, output_cmp}
 use Rattle.sqlite_sql.proofs.QueryLemmas.{output_cmp_total}
 use Rattle.sqlite.specs.State.{State, Shown}
@@ -21,7 +21,7 @@ use Rattle.s10_statements.specs.Shown.{shown_call, call_columns}
 use Rattle.s10_statements.specs.Statements.{select_calls_sql}
 use Rattle.s10_statements.proofs.Texts.{calls_query}
 use Rattle.s10_statements.proofs.ReadLemmas.{kept_are}
-use Rattle.s10_statements.proofs.GoneLemmas.{all_moved, all_shown}
+use Rattle.s10_statements.proofs.GoneLemmas.{all_moved}
 use Rattle.s10_statements.proofs.AnswerLemmas.{first_key, always, calls_answers}
 
 module _ {X : Type 0} (cmp : X → X → Ordering) (total : IsTotalOrder cmp) where
@@ -83,7 +83,7 @@ module _ (params : Row) (old new : State) (rows : List Row)
       let each : AllByRecursion (λ (o : Output). o ≡ out o.1) a.ordered =
       all_moved (λ (o : Output). o ≡ out o.1) a.kept a.ordered a.same
       (subst (AllByRecursion (λ (o : Output). o ≡ out o.1)) (sym kept)
-      (all_shown (λ (o : Output). o ≡ out o.1) out (λ v. refl) columns)) in
+      (all-map (λ (o : Output). o ≡ out o.1) out (λ v. refl) columns)) in
       let in_order : a.ordered ≡ map (λ x. out (shown_call x)) found =
       keyed a.ordered each ∙ ap (map out) (sym (typed ∙ a.shown)) ∙ map-map out shown_call found in
       let sorted : IsSorted (output_cmp calls_query) (map (λ x. out (shown_call x)) found) =

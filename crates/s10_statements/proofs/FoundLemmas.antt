@@ -7,7 +7,7 @@ use Rattle.std.proofs.lemmas.List.Sorted.{IsPermutation-sym, IsPermutation-map}
 use Rattle.std.proofs.lemmas.List.Elements.{All-tail}
 use Rattle.std.specs.List.{AllByRecursion}
 use Rattle.sqlite_trees.specs.View.{is_int}
-use Rattle.sqlite_keyed.proofs.ListLemmas.{map-map}
+use Rattle.sqlite_keyed.proofs.ListLemmas.{map-map, all_unmap}
 use Rattle.sqlite_value.specs.Order.{Row, column}
 use Rattle.sqlite_trees.specs.Tree.{IsAscending}
 use Rattle.sqlite_trees.specs.Props.{rows_set}
@@ -22,17 +22,17 @@ use Rattle.s10_rows.specs.Tables.{Tables, HaveSameRows}
 use Rattle.s10_statements.specs.Shown.{HasTables, shown_head, shown_call, shown_range, shown_serial}
 use Rattle.s10_statements.specs.Shown.{shown_closed, head_columns, call_columns, range_columns}
 use Rattle.s10_statements.specs.Shown.{serial_columns, closed_columns, serial_front}
-use Rattle.s10_statements.specs.Shown.{HasIntegerRowid}
+use Rattle.s10_statements.specs.Shown.{HasIntegerRowid, call_from, range_from, closed_from}
 use Rattle.s10_rows.specs.Selected.{is_within}
 use Rattle.s10_statements.specs.Statements.{select_head_sql, select_calls_sql, select_ranges_sql}
 use Rattle.s10_statements.specs.Statements.{select_serials_within_sql, select_serials_sql}
 use Rattle.s10_statements.specs.Statements.{select_closed_sql}
 use Rattle.s10_statements.proofs.ReadLemmas.{read_back}
-use Rattle.s10_statements.proofs.GoneLemmas.{all_moved, all_of_map}
-use Rattle.s10_statements.proofs.AnswerLemmas.{wide_columns, call_from, range_from, head_shows}
+use Rattle.s10_statements.proofs.GoneLemmas.{all_moved}
+use Rattle.s10_statements.proofs.AnswerLemmas.{wide_columns, head_shows}
 use Rattle.s10_statements.proofs.AnswerLemmas.{calls_shows, calls_rise, ranges_shows, ranges_rise}
 use Rattle.s10_statements.proofs.AnswerLemmas.{within_shows, within_params, within_test}
-use Rattle.s10_statements.proofs.AnswerLemmas.{within_selects, serials_shows, closed_from}
+use Rattle.s10_statements.proofs.AnswerLemmas.{within_selects, serials_shows}
 use Rattle.s10_statements.proofs.AnswerLemmas.{closed_shows, closed_rise}
 
 all_in_turn : {X : Type 0} (P : X → Type 0) (xs : List X) → All P xs → AllByRecursion P xs
@@ -78,7 +78,7 @@ module _ (params : Row) (old new : State) (rows : List Row)
       → All (λ v. IsTrue (is_int (column v 7))) rows
       → AllByRecursion HasIntegerRowid (old.now.trees 4)
   serials_numbered h each =
-      all_of_map (λ v. IsTrue (is_int (column v 7))) wide_columns (old.now.trees 4)
+      all_unmap (λ v. IsTrue (is_int (column v 7))) wide_columns (old.now.trees 4)
       (all_moved (λ v. IsTrue (is_int (column v 7))) rows (map wide_columns (old.now.trees 4))
       (IsPermutation-sym _ _ (serials_shows params old new rows has h))
       (all_in_turn (λ v. IsTrue (is_int (column v 7))) rows each))

@@ -1,6 +1,6 @@
 -- Which rows a write removes from a tree.
-use Rattle.std.proofs.Common.{◌≡◌, inl, inr, ℤ, List, [], ◌∷◌, map, filter, Bool, true, false, not}
-use Rattle.std.proofs.Common.{cond, refl, sym, ap, subst, ◌∙◌, arith, int_eq, is_eq}
+use Rattle.std.proofs.Common.{◌≡◌, ℤ, List, [], ◌∷◌, filter, Bool, true, false, not}
+use Rattle.std.proofs.Common.{cond, refl, ap, ◌∙◌, arith, int_eq, is_eq}
 use Rattle.std.proofs.lemmas.Int.{ints}
 use Rattle.std.specs.List.{AllByRecursion}
 use Rattle.std.specs.List.Sorted.{IsPermutation}
@@ -9,7 +9,6 @@ use Rattle.sqlite_value.specs.declared.value.Value.TheVariants.{Null, Int, Real,
 use Rattle.sqlite_value.specs.Order.{Row, value_cmp}
 use Rattle.sqlite_value.proofs.OrderLemmas.{value_cmp-Int}
 use Rattle.sqlite_trees.specs.Tree.{rowid, has_rowid}
-use Rattle.sqlite_rules.specs.Lists.{Has}
 use Rattle.sqlite_keyed.proofs.ListLemmas.{along_permutation}
 use Rattle.sqlite_trees.specs.View.{is_int}
 use Rattle.s10_statements.specs.Shown.{HasIntegerRowid}
@@ -19,22 +18,6 @@ pub all_moved : {X : Type 0} (P : X → Type 0) (xs ys : List X) → IsPermutati
 all_moved P = along_permutation (λ us vs. AllByRecursion P us → AllByRecursion P vs) (λ us h. h)
     (λ x us vs f h. (h.0, f h.1)) (λ x y us h. (h.1.0, (h.0, h.1.1)))
     (λ us vs ws f g h. g (f h))
-
-pub all_of_map : {X Y : Type 0} (P : Y → Type 0) (f : X → Y) (xs : List X)
-    → AllByRecursion P (map f xs) → AllByRecursion (λ x. P (f x)) xs
-all_of_map P f [] h = tt
-all_of_map P f (x ∷ xs) h = (h.0, all_of_map P f xs h.1)
-
-pub all_shown : {X Y : Type 0} (P : Y → Type 0) (f : X → Y) → ((x : X) → P (f x)) → (xs : List X)
-    → AllByRecursion P (map f xs)
-all_shown P f each [] = tt
-all_shown P f each (x ∷ xs) = (each x, all_shown P f each xs)
-
-pub all_has : {X : Type 0} (P : X → Type 0) (xs : List X) (x : X) → AllByRecursion P xs → Has xs x
-    → P x
-all_has P [] x all has = absurd has
-all_has P (y ∷ ys) x all (inl same) = subst P (sym same) all.0
-all_has P (y ∷ ys) x all (inr more) = all_has P ys x all.1 more
 
 -- The number of a row.
 abbrev pub HasId : Row → Type 0

@@ -1,6 +1,6 @@
 -- The tables after the write of a serial.
 use Rattle.std.proofs.Common.{◌≡◌, inl, inr, arith, ℕ, suc, ℤ, ◌≤◌, drop, List, [], ◌∷◌, ◌++◌}
-use Rattle.std.proofs.Common.{length, map, filter, Bool, true, false, not, ◌&&◌, ◌||◌, cond, Option}
+use Rattle.std.proofs.Common.{length, map, filter, Bool, true, false, not, ◌&&◌, ◌||◌, Option}
 use Rattle.std.proofs.Common.{Some, None, unwrap_or, Ok, refl, sym, ap, subst, ◌∙◌, int_eq, is_eq}
 use Rattle.std.proofs.Math.Logic.{∥∥₁_map, ∥∥₁_elim, ∥∥₁_prop}
 use mathlib.Core.Bool.{Bool-set}
@@ -35,7 +35,7 @@ use Rattle.sqlite_rules.specs.Edit.{taken_by, edit_of, next_rowid, numbered, wit
 use Rattle.sqlite_rules.specs.Edit.{without_all}
 use Rattle.sqlite_rules.specs.Action.{Writes as sqlWrites}
 use Rattle.std.proofs.lemmas.Int.{ints}
-use Rattle.sqlite_rules.proofs.ListLemmas.{has_kept}
+use Rattle.sqlite_rules.proofs.ListLemmas.{has_kept, all_has}
 use Rattle.sqlite_keyed.proofs.ListLemmas.{filter-map, IsPermutation-filter}
 use Rattle.sqlite_typed.proofs.TestLemmas.{at_ints, then_term, last_term}
 use Rattle.sqlite.specs.declared.run.Mode.{Mode}
@@ -58,11 +58,14 @@ use Rattle.s10_statements.proofs.WriteTexts.{issue_terms, again_means, issue_ups
 use Rattle.s10_statements.proofs.WriteTexts.{update_query}
 use Rattle.s10_statements.proofs.Apart.{no_works, none_shares, not_serials, is_as_it_was}
 use Rattle.s10_statements.proofs.Apart.{after_apart}
-use Rattle.s10_statements.proofs.ReadLemmas.{filter_each, kept_are, rows_are}
+use Rattle.s10_statements.proofs.ReadLemmas.{kept_are, rows_are}
+use Rattle.sqlite_keyed.proofs.ListLemmas.{filter_same, all_unmap, all-map, all-filter}
 use Rattle.s10_statements.proofs.PutLemmas.{cast_int, cast_null, went, same_value, Spares, put_one}
 use Rattle.s10_statements.proofs.InsertLemmas.{one_more}
-use Rattle.s10_statements.proofs.GoneLemmas.{all_moved, all_of_map, all_shown, all_has, HasId}
+use Rattle.s10_statements.proofs.GoneLemmas.{all_moved, HasId}
 use Rattle.s10_statements.proofs.GoneLemmas.{all_ids, same_int, has_id, stays}
+use Rattle.std.proofs.lemmas.List.{length-map}
+use Rattle.std.proofs.lemmas.Bool.{and_parts}
 
 -- Whether the columns are those of the row's identifier.
 abbrev pub at_key : SerialRow → Row → Bool
@@ -183,10 +186,6 @@ pub length_numbered : (left sources : List Row) → length (numbered Given left 
 length_numbered left [] = refl
 length_numbered left (s ∷ sources) = ap suc (length_numbered (put_row s left) sources)
 
-pub length_mapped : {X Y : Type 0} (f : X → Y) (xs : List X) → length (map f xs) ≡ length xs
-length_mapped f [] = refl
-length_mapped f (x ∷ xs) = ap suc (length_mapped f xs)
-
 abbrev pub key_of : SerialRow → Row → Bool
 key_of r x = at_key r (serial_columns x)
 
@@ -228,7 +227,7 @@ module _ (o : Schema) (apart : are_apart o.tables ≡ true) (limit : Option ℕ)
           arith,
           length_permutation (map (update_columns r) (filter (has_rowid k) rows))
               found q,
-          length_mapped (update_columns r) (filter (has_rowid k) rows),
+          length-map (filter (has_rowid k) rows) (update_columns r),
         ) in
         let single : filter (has_rowid k) rows ≡ r0 ∷ [] = alone (filter (has_rowid k) rows) r0
         (has_kept (has_rowid k) rows r0 has r0_has) count in
@@ -265,7 +264,7 @@ module _ (o : Schema) (apart : are_apart o.tables ≡ true) (limit : Option ℕ)
       } =
       same_value v.2 in
       let counted : length w.0 ≡ 1 =
-      sym (length_mapped (λ s. cast_row serials_table (drop 1 s)) w.0)
+      sym (length-map w.0 (λ s. cast_row serials_table (drop 1 s)))
       ∙ sym (length_numbered (without_all (db 4) (ids_of w.0))
       (map (λ s. cast_row serials_table (drop 1 s)) w.0))
       ∙ ap (λ (it : Written). length it.rows) (sym same_one) ∙ count in
@@ -304,11 +303,6 @@ key_typed : (r s : SerialRow) → at_key r (shown_serial s) ≡ is_at r.pair r.s
 key_typed r s = then_term (at_ints false Eq s.pair r.pair)
     (last_term (at_ints false Eq s.serial r.serial))
 
-both_true : (a b : Bool) → (a && b) ≡ true → (a ≡ true) × (b ≡ true)
-both_true true true h = (refl, refl)
-both_true true false h = absurd (let e = h in cc)
-both_true false b h = absurd (let e = h in cc)
-
 module _ (o : Schema) (apart : are_apart o.tables ≡ true) (behind : index_apart o.indexes ≡ true)
     (limit : Option ℕ) (id : ℤ) (r : SerialRow) (db : Trees) (one : Written)
     (numbers : AllByRecursion HasId (db 4))
@@ -342,7 +336,7 @@ module _ (o : Schema) (apart : are_apart o.tables ≡ true) (behind : index_apar
       let n = all_has HasId (db 4) s.0 numbers s.1 in
       let t = all_has (λ x. IsShown (serial_columns x)) (db 4) s.0 typed s.1 in
       let key : key_of r s.0 ≡ true = sym (conflict_is o behind id r s.0) ∙ s.2 in
-      let same = both_true (int_eq t.0.pair r.pair) (int_eq t.0.serial r.serial)
+      let same = and_parts (int_eq t.0.pair r.pair) (int_eq t.0.serial r.serial)
       (sym (key_typed r t.0) ∙ sym (ap (at_key r) t.1) ∙ key) in
       let e1 : column s.0 1 ≡ Int r.pair = ap (λ v. column v 0) t.1
       ∙ ap Int (same_int t.0.pair r.pair same.0) in
@@ -439,7 +433,7 @@ typed_after serials r old new it p =
     let left : filter (λ v. not (at_key r v)) (map shown_serial serials)
     ≡ map shown_serial (filter (λ x. not (is_at r.pair r.serial x)) serials) =
     filter-map (λ v. not (at_key r v)) shown_serial serials
-    ∙ ap (map shown_serial) (filter_each (λ x. not (at_key r (shown_serial x)))
+    ∙ ap (map shown_serial) (filter_same (λ x. not (at_key r (shown_serial x)))
     (λ x. not (is_at r.pair r.serial x)) (λ x. ap not (key_typed r x)) serials) in
     let right : filter (λ v. not (at_key r v)) (map serial_columns (old 4)) ≡ map serial_columns
     (others r (old 4)) = filter-map (λ v. not (at_key r v)) serial_columns (old 4) in
@@ -459,7 +453,7 @@ few_keyed serials r rows p few =
     let left : filter (at_key r) (map shown_serial serials)
     ≡ map shown_serial (filter (is_at r.pair r.serial) serials) =
     filter-map (at_key r) shown_serial serials
-    ∙ ap (map shown_serial) (filter_each (λ x. at_key r (shown_serial x))
+    ∙ ap (map shown_serial) (filter_same (λ x. at_key r (shown_serial x))
     (is_at r.pair r.serial) (key_typed r) serials) in
     let right : filter (at_key r) (map serial_columns rows) ≡ map serial_columns
     (filter (key_of r) rows) = filter-map (at_key r) serial_columns rows in
@@ -470,29 +464,22 @@ few_keyed serials r rows p few =
       arith,
       few,
       length_permutation _ _ moved,
-      length_mapped shown_serial (filter (is_at r.pair r.serial) serials),
-      length_mapped serial_columns (filter (key_of r) rows),
+      length-map (filter (is_at r.pair r.serial) serials) shown_serial,
+      length-map (filter (key_of r) rows) serial_columns,
     )
 
 shown_rows : (serials : List SerialRow) (rows : List Row) → IsPermutation (map shown_serial serials)
     (map serial_columns rows) → AllByRecursion (λ x. IsShown (serial_columns x)) rows
-shown_rows serials rows p = all_of_map IsShown serial_columns rows
+shown_rows serials rows p = all_unmap IsShown serial_columns rows
     (all_moved IsShown (map shown_serial serials) (map serial_columns rows) p
-    (all_shown IsShown shown_serial (λ s. (s, refl)) serials))
-
-pub all_kept : {X : Type 0} (P : X → Type 0) (p : X → Bool) (xs : List X) → AllByRecursion P xs
-    → AllByRecursion P (filter p xs)
-all_kept P p [] all = tt
-all_kept P p (x ∷ xs) all =
-    elim (p x) as (λ b. AllByRecursion P (cond b (x ∷ filter p xs) (filter p xs)))
-    [ true ↦ (all.0, all_kept P p xs all.1) | false ↦ all_kept P p xs all.1 ]
+    (all-map IsShown shown_serial (λ s. (s, refl)) serials))
 
 numbered_after : (r : SerialRow) (old new : Trees) → Upserted old new r
     → AllByRecursion HasIntegerRowid (old 4) → AllByRecursion HasIntegerRowid (new 4)
 numbered_after r old new it all = all_moved HasIntegerRowid (it.row ∷ others r (old 4)) (new 4)
     it.put (
       it.is_numbered,
-      all_kept HasIntegerRowid (λ x. not (at_key r (serial_columns x)))
+      all-filter HasIntegerRowid (λ x. not (at_key r (serial_columns x)))
           (old 4) all,
     )
 

@@ -27,7 +27,7 @@ use Rattle.sqlite_rules.specs.Cast.{cast_row}
 use Rattle.sqlite_rules.specs.Calls.{ids_of}
 use Rattle.sqlite_rules.specs.Edit.{taken_by, edit_of, without_all}
 use Rattle.sqlite_rules.specs.Action.{Writes as sqlWrites}
-use Rattle.sqlite_keyed.proofs.ListLemmas.{filter-map}
+use Rattle.sqlite_keyed.proofs.ListLemmas.{filter-map, all_unmap, all-map, all-filter}
 use Rattle.sqlite_typed.proofs.TestLemmas.{at_ints, last_term}
 use Rattle.sqlite.specs.Effect.{Database}
 use Rattle.sqlite.specs.Does.{Tally, Does}
@@ -48,9 +48,10 @@ use Rattle.s10_statements.proofs.Apart.{no_works, not_ranges, is_as_it_was, afte
 use Rattle.s10_statements.proofs.ReadLemmas.{kept_are, rows_are}
 use Rattle.s10_statements.proofs.PutLemmas.{cast_int, cast_null, went, same_value, Spares, put_one}
 use Rattle.s10_statements.proofs.InsertLemmas.{stored_range}
-use Rattle.s10_statements.proofs.IssueLemmas.{length_numbered, length_mapped, one_changed, all_kept}
-use Rattle.s10_statements.proofs.GoneLemmas.{all_moved, all_of_map, all_shown, passing, same_int}
+use Rattle.s10_statements.proofs.IssueLemmas.{length_numbered, one_changed}
+use Rattle.s10_statements.proofs.GoneLemmas.{all_moved, passing, same_int}
 use Rattle.s10_statements.proofs.GoneLemmas.{has_id, stays}
+use Rattle.std.proofs.lemmas.List.{length-map}
 
 -- The rows that the statement finds, as it writes them back after their rowids.
 abbrev update_columns : ℤ → Row → Row
@@ -72,9 +73,9 @@ IsRange v = (s : RangeRow) × (v ≡ shown_range s)
 
 range_ids : (ranges : List RangeRow) (rows : List Row) → IsPermutation (map shown_range ranges)
     (map range_columns rows) → AllByRecursion (λ x. IsRange (range_columns x)) rows
-range_ids ranges rows p = all_of_map IsRange range_columns rows
+range_ids ranges rows p = all_unmap IsRange range_columns rows
     (all_moved IsRange (map shown_range ranges) (map range_columns rows) p
-    (all_shown IsRange shown_range (λ s. (s, refl)) ranges))
+    (all-map IsRange shown_range (λ s. (s, refl)) ranges))
 
 only_one : {X : Type 0} (xs : List X) → length xs ≡ 1 → (x : X) × (xs ≡ x ∷ [])
 only_one [] one = absurd (omega (arith, one))
@@ -146,7 +147,7 @@ module _ (o : Schema) (apart : are_apart o.tables ≡ true) (limit : Option ℕ)
       } = same_value
       v.2 in
       let counted : length w.0 ≡ 1 =
-      sym (length_mapped (λ s. cast_row ranges_table (drop 1 s)) w.0)
+      sym (length-map w.0 (λ s. cast_row ranges_table (drop 1 s)))
       ∙ sym (length_numbered (without_all (db 3) (ids_of w.0))
       (map (λ s. cast_row ranges_table (drop 1 s)) w.0))
       ∙ ap (λ (it : Written). length it.rows) (sym same_one) ∙ count in
@@ -154,14 +155,14 @@ module _ (o : Schema) (apart : are_apart o.tables ≡ true) (limit : Option ℕ)
       let single = only_one (filter (has_rowid num) (db 3))
       (omega (
         arith,
-        length_mapped (update_columns mark) (filter (has_rowid num) (db 3)),
+        length-map (filter (has_rowid num) (db 3)) (update_columns mark),
         length_permutation (map (update_columns mark) (filter (has_rowid num) (db 3))) w.0 found,
         counted,
       )) in
       let there : Row = single.0 in
       let t : IsRange (range_columns there) =
       (subst (AllByRecursion (λ x. IsRange (range_columns x))) single.1
-      (all_kept (λ x. IsRange (range_columns x)) (has_rowid num) (db 3) typed)).0 in
+      (all-filter (λ x. IsRange (range_columns x)) (has_rowid num) (db 3) typed)).0 in
       let hit : has_rowid num there ≡ true =
       (subst (AllByRecursion (λ x. has_rowid num x ≡ true)) single.1
       (passing (has_rowid num) (db 3))).0 in

@@ -12,6 +12,7 @@ use Rattle.sqlite_sql.specs.Query.{Query, Output, output, output_cmp}
 use Rattle.sqlite_sql.proofs.QueryLemmas.{output_cmp_total}
 use Rattle.sqlite_keyed.proofs.SortLemmas.{sorted_unique}
 use Rattle.sqlite_keyed.proofs.ListLemmas.{map-map, filter-map, ascending-map, IsPermutation-filter}
+use Rattle.sqlite_keyed.proofs.ListLemmas.{map_same, filter_same, map_back}
 
 picked : {A B : Type 0} (p : A → Bool) (f : A → B) (xs : List A)
     → flat_map (λ x. cond (p x) (f x ∷ []) []) xs ≡ map f (filter p xs)
@@ -20,16 +21,6 @@ picked {A} {B} p f (x ∷ xs) =
     elim (p x) as (λ b. cond b (f x ∷ []) [] ++ flat_map (λ y. cond (p y) (f y ∷ []) []) xs
     ≡ map f (cond b (x ∷ filter p xs) (filter p xs)))
     [ true ↦ ap (λ l. f x ∷ l) (picked p f xs) | false ↦ picked p f xs ]
-
-map_each : {A B : Type 0} (f g : A → B) → ((x : A) → f x ≡ g x) → (xs : List A)
-    → map f xs ≡ map g xs
-map_each f g same [] = refl
-map_each f g same (x ∷ xs) = rw (same x, map_each f g same xs)
-
-pub filter_each : {A : Type 0} (p q : A → Bool) → ((x : A) → p x ≡ q x) → (xs : List A)
-    → filter p xs ≡ filter q xs
-filter_each p q same [] = refl
-filter_each p q same (x ∷ xs) = rw (same x, filter_each p q same xs)
 
 -- The columns shown are these of a stored row, their first ones are the key, and the test is one of
 -- them.
@@ -49,10 +40,10 @@ module _ (params : Row) (q : Query) (raw : List Row) (columns key : Row → Row)
       let one : kept ≡ map (output q) (map f (filter p raw)) =
       k ∙ ap (map (output q)) (s ∙ picked p f raw) in
       let two : map (output q) (map f (filter p raw)) ≡ map (λ r. out (columns r)) (filter p raw) =
-      map-map (output q) f (filter p raw) ∙ map_each _ _ outs (filter p raw) in
+      map-map (output q) f (filter p raw) ∙ map_same _ _ outs (filter p raw) in
       let three : map (λ r. out (columns r)) (filter p raw)
       ≡ map out (map columns (filter (λ r. test (columns r)) raw)) =
-      ap (map (λ r. out (columns r))) (filter_each p (λ r. test (columns r)) tests raw)
+      ap (map (λ r. out (columns r))) (filter_same p (λ r. test (columns r)) tests raw)
       ∙ sym (map-map out columns (filter (λ r. test (columns r)) raw)) in
       one ∙ two ∙ three ∙ ap (map out) (sym (filter-map test columns raw))
 
@@ -94,20 +85,11 @@ module _ (params : Row) (q : Query) (raw : List Row) (columns key : Row → Row)
       rows-is ∙ ap (map (λ (o : Output). o.1)) (in_order ∙ sym (map-map out shown xs))
       ∙ seconds (map shown xs)
 
-same_list : {X : Type 0} (xs : List X) → map (λ x. x) xs ≡ xs
-same_list [] = refl
-same_list (x ∷ xs) = ap (λ l. x ∷ l) (same_list xs)
-
-pub again : {X : Type 0} (shown : X → Row) (read : Row → X) → ((x : X) → read (shown x) ≡ x)
-    → (xs : List X) → map read (map shown xs) ≡ xs
-again shown read back xs = map-map read shown xs ∙ map_each (λ x. read (shown x)) (λ x. x) back xs
-    ∙ same_list xs
-
 -- Typed rows that SQL shows the same way are the same.
 pub read_back : {X : Type 0} (shown : X → Row) (read : Row → X) → ((x : X) → read (shown x) ≡ x)
     → (xs ys : List X) → map shown xs ≡ map shown ys → xs ≡ ys
-read_back shown read back xs ys e = sym (again shown read back xs) ∙ ap (map read) e
-    ∙ again shown read back ys
+read_back shown read back xs ys e = sym (map_back shown read back xs) ∙ ap (map read) e
+    ∙ map_back shown read back ys
 
 -- Typed rows that show as the rows that pass are those that pass.
 pub selected : {X : Type 0} (shown : X → Row) (read : Row → X) → ((x : X) → read (shown x) ≡ x)
@@ -118,7 +100,7 @@ selected {X} shown read back test p agree xs ys vs has got =
     let all : IsPermutation (filter test (map shown xs)) (map shown ys) =
     IsPermutation-trans _ _ _ (IsPermutation-filter test _ _ has) got in
     let typed : filter test (map shown xs) ≡ map shown (filter p xs) = filter-map test shown xs
-    ∙ ap (map shown) (filter_each (λ x. test (shown x)) p agree xs) in
+    ∙ ap (map shown) (filter_same (λ x. test (shown x)) p agree xs) in
     let turned : IsPermutation (map read (map shown (filter p xs))) (map read (map shown ys)) =
     IsPermutation-map read _ _ (rw (← typed) all) in
-    rw (again shown read back (filter p xs), again shown read back ys) at turned
+    rw (map_back shown read back (filter p xs), map_back shown read back ys) at turned

@@ -1,5 +1,5 @@
 -- What reading rows one at a time leaves, and which rows it gives.
-use Rattle.std.proofs.Common.{◌≡◌, ◌≤◌, ◌⊎◌, inl, inr, IfOk, IfErr, OnErr, refl, ap, map, List, []}
+use Rattle.std.proofs.Common.{◌≡◌, ◌≤◌, ◌⊎◌, inl, inr, IfOk, IfErr, OnErr, ap, map, List, []}
 use Rattle.std.proofs.Common.{◌∷◌, ◌++◌, ℕ, Some, None, Ok, Err, Result, IsTrue, false, sym, subst}
 use Rattle.std.proofs.Common.{◌∙◌, arith}
 use Rattle.sqlite_value.specs.Order.{Row}
@@ -20,6 +20,7 @@ use Rattle.s10_statements.specs.ConnectionState.{IsQuiescent, AddsNoCrashState}
 use Rattle.s10_statements.specs.Statements.{LeavesTables}
 use Rattle.s10_statements.proofs.StateLemmas.{read_open, read_same, read_settled, leaves_then}
 use Rattle.s10_statements.proofs.CrashLemmas.{commits_none, first, spared}
+use Rattle.std.proofs.lemmas.List.{map-append}
 
 -- The text only reads, in the database of any ledger.
 abbrev pub OnlyReads : List ℕ → Type 0
@@ -253,15 +254,10 @@ module _ {S : Type 0} {g : Ghosts S} {sql : List ℕ} {params : Row} {P : List R
         was.3,
       )
 
-pub map_snoc : {A B : Type 0} (f : A → B) (xs : List A) (x : A) → map f (xs ++ x ∷ []) ≡ map f xs
-    ++ f x ∷ []
-map_snoc f [] x = refl
-map_snoc f (y ∷ ys) x = ap (λ l. f y ∷ l) (map_snoc f ys x)
-
 -- One more typed row at the end.
 pub map_push : {A B : Type 0} (f : A → B) (xs new : List A) (x : A) (ys : List B) (y : B)
     → new ≡ xs ++ x ∷ [] → map f xs ≡ ys → f x ≡ y → map f new ≡ ys ++ y ∷ []
-map_push f xs new x ys y e was is = ap (map f) e ∙ map_snoc f xs x ∙ ap (λ l. l ++ f x ∷ []) was
+map_push f xs new x ys y e was is = ap (map f) e ∙ map-append f xs (x ∷ []) ∙ ap (λ l. l ++ f x ∷ []) was
     ∙ ap (λ z. ys ++ z ∷ []) is
 
 pub on_err : {T E : Type 0} (r : Result T E) (P : Type 0) (e : E) → r ≡ Err e → OnErr r P → P

@@ -1,7 +1,8 @@
 -- Defines how SQL shows the rows of the five tables, and which tables a database has.
-use Rattle.std.specs.Prelude.{◌≡◌, IsTrue, List, [], ◌∷◌, map}
+use Rattle.std.specs.Prelude.{◌≡◌, ℕ, ℤ, pos, IsTrue, List, [], ◌∷◌, map}
 use Rattle.std.specs.List.{AllByRecursion}
-use Rattle.sqlite_value.specs.declared.value.Value.TheVariants.{Int, Blob}
+use Rattle.sqlite_value.specs.declared.value.Value.{Value}
+use Rattle.sqlite_value.specs.declared.value.Value.TheVariants.{Null, Int, Real, Text, Blob}
 use Rattle.sqlite_value.specs.Order.{Row, column}
 use Rattle.sqlite_trees.specs.Tree.{rowid}
 use Rattle.sqlite_trees.specs.View.{is_int}
@@ -36,6 +37,68 @@ shown_serial r = Int r.pair ∷ Int r.serial ∷ Int r.arrival ∷ Int r.day ∷
 -- A row of closed as SQL shows it.
 abbrev pub shown_closed : ClosedRow → Row
 shown_closed r = Int r.num ∷ Int r.arrival ∷ []
+
+-- The integer of a value, 0 for a value of another type.
+abbrev pub int_in : Value → ℤ
+int_in Null = pos 0
+int_in (Int n) = n
+int_in (Real x) = pos 0
+int_in (Text t) = pos 0
+int_in (Blob b) = pos 0
+
+-- The bytes of a value, none for a value of another type.
+abbrev pub blob_in : Value → List ℕ
+blob_in Null = []
+blob_in (Int n) = []
+blob_in (Real x) = []
+blob_in (Text t) = []
+blob_in (Blob b) = b
+
+-- The row of head that SQL shows so.
+abbrev pub head_from : Row → HeadRow
+head_from v = record {
+  one = int_in (column v 0);
+  schema = int_in (column v 1);
+  interval = int_in (column v 2);
+  cap = int_in (column v 3);
+}
+
+-- The row of calls that SQL shows so.
+abbrev pub call_from : Row → StoredCall
+call_from v = record {
+  arrival = int_in (column v 0);
+  customer = int_in (column v 1);
+  number = int_in (column v 2);
+  day = int_in (column v 3);
+  reply = blob_in (column v 4);
+}
+
+-- The row of ranges that SQL shows so.
+abbrev pub range_from : Row → RangeRow
+range_from v = record {
+  num = int_in (column v 0);
+  holder = int_in (column v 1);
+  pair = int_in (column v 2);
+  low = int_in (column v 3);
+  high = int_in (column v 4);
+  mark = int_in (column v 5);
+}
+
+-- The row of serials that SQL shows so.
+abbrev pub serial_from : Row → SerialRow
+serial_from v = record {
+  pair = int_in (column v 0);
+  serial = int_in (column v 1);
+  arrival = int_in (column v 2);
+  day = int_in (column v 3);
+  customer = int_in (column v 4);
+  number = int_in (column v 5);
+  voided = int_in (column v 6);
+}
+
+-- The row of closed that SQL shows so.
+abbrev pub closed_from : Row → ClosedRow
+closed_from v = record { num = int_in (column v 0); arrival = int_in (column v 1) }
 
 -- The columns of a row of serials that is shown with its rowid after them.
 abbrev pub serial_front : Row → Row

@@ -38,7 +38,7 @@ use Rattle.s10_world.specs.Parts.{place_of}
 use Rattle.s10_world.specs.Sound.{GivesIn, IsGivenBy, IsTakenBy, IsOfClient, IsAwaited}
 use Rattle.s10_world.specs.Sound.{IsSoundWorld}
 use Rattle.s10_world.proofs.Places.{after_set, set_here, set_elsewhere}
-use Rattle.s10_world.proofs.Once.{once_one}
+use Rattle.s10_ends.proofs.Applied.{once_one}
 
 -- A property of all elements holds of the one at an index.
 pub all_at : {X : Type 0} (P : X → Type 0) (xs : List X) (i : ℕ) (x : X) → All P xs
@@ -202,31 +202,17 @@ sound_give_up_by w k (Some c) there sound =
 sound_same : (w w' : WorldState) → w' ≡ w → IsSoundWorld w → IsSoundWorld w'
 sound_same w w' same sound = subst IsSoundWorld (sym same) sound
 
-sound_asked : (w : WorldState) (asked : List (List ℕ)) → IsSoundWorld w
-    → IsSoundWorld (record w { asked = asked })
-sound_asked w asked sound =
+-- What clients sent, and the faults counted, are no part of it.
+sound_but : (w : WorldState) (asked : List (List ℕ)) (faults : Faults) → IsSoundWorld w
+    → IsSoundWorld (record w { asked = asked; faults = faults })
+sound_but w asked faults sound =
     record {
       replied = sound.replied;
       taken = sound.taken;
       in_turn = sound.in_turn;
       awaited = sound.awaited;
       submitted = sound.submitted;
-      accepted_in_turn =
-          sound.accepted_in_turn;
-      given = sound.given;
-    }
-
-sound_faults : (w : WorldState) (faults : Faults) → IsSoundWorld w
-    → IsSoundWorld (record w { faults = faults })
-sound_faults w faults sound =
-    record {
-      replied = sound.replied;
-      taken = sound.taken;
-      in_turn = sound.in_turn;
-      awaited = sound.awaited;
-      submitted = sound.submitted;
-      accepted_in_turn =
-          sound.accepted_in_turn;
+      accepted_in_turn = sound.accepted_in_turn;
       given = sound.given;
     }
 
@@ -234,7 +220,7 @@ sound_sends : (w w' : WorldState) (pending : Option Request) → SendsPending w 
     → IsSoundWorld w → IsSoundWorld w'
 sound_sends w w' None is sound = sound_same w w' is sound
 sound_sends w w' (Some q) is sound = sound_same (record w { asked = w.asked ++ is.0 ∷ [] }) w' is.2
-    (sound_asked w (w.asked ++ is.0 ∷ []) sound)
+    (sound_but w (w.asked ++ is.0 ∷ []) w.faults sound)
 
 sound_resends : (w w' : WorldState) (client : Option ClientState) → Resends w client w'
     → IsSoundWorld w → IsSoundWorld w'
@@ -286,7 +272,7 @@ sound_serves : (t : Terms) (w w' : WorldState) (b : List ℕ) (q : Request) (day
     → ServesRequest t w b q day w' → IsSoundWorld w → IsSoundWorld w'
 sound_serves t w w' b q day serves sound = elim serves [
   | inl fault ↦ sound_same (record w { faults = w'.faults }) w' fault.1
-      (sound_faults w w'.faults sound)
+      (sound_but w w.asked w'.faults sound)
   | inr other ↦ elim other [
     | inl full ↦ sound_same w w' full.1 sound
     | inr replied ↦ sound_same _ w' replied.3 (sound_replied w b replied.1 q day t.interval

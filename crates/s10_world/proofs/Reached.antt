@@ -12,10 +12,7 @@ use Rattle.s10_history.specs.History.{find_entry, day_of}
 use Rattle.s10_book.specs.Once.{entry_for, applied}
 use Rattle.s10_book.specs.Rules.{IsLegal}
 use Rattle.s10_book.proofs.Push.{IsLegal-push}
-use Rattle.s10_book.proofs.Spaced.{spaced}
 use Rattle.s10_book.proofs.Own.{own}
-use Rattle.s10_book.proofs.Apart.{apart}
-use Rattle.s10_ends.specs.Runs.{KeepsPromises}
 use Rattle.s10_ends.specs.Client.{ClientState, IsNew, submit_fault}
 use Rattle.s10_world.specs.declared.event.Event.{Event}
 use Rattle.s10_world.specs.declared.event.Event.TheVariants.{Submit, Resend, GiveUp, ToServer}
@@ -24,7 +21,7 @@ use Rattle.s10_world.specs.World.{WorldState, after_submit_by, after_give_up_by,
 use Rattle.s10_world.specs.World.{Resends, ServesRequest, ReachesServer, DeliversRequest}
 use Rattle.s10_world.specs.World.{DeliversReply, Step, Steps}
 use Rattle.s10_world.specs.Sound.{IsGivenBy, IsOfClient, IsStart, IsSoundWorld}
-use Rattle.s10_world.proofs.Once.{once_one}
+use Rattle.s10_ends.proofs.Applied.{once_one}
 use Rattle.s10_world.proofs.Kept.{all_at}
 
 none_within : {X : Type 0} (xs : List X) (j : ℕ) → xs ≡ [] → ¬ (j < length xs)
@@ -145,11 +142,3 @@ pub steps_legal : (t : Terms) (w w' : WorldState) (es : List Event) → Steps t 
 steps_legal t w w' [] is legal = legal_same t w w' (ap (λ (v : WorldState). v.history) is) legal
 steps_legal t w w' (e ∷ es) is legal =
     steps_legal t is.0 w' es is.2 (step_legal t w is.0 e is.1 legal)
-
-pub kept_of : (h : List Entry) (t : Terms) → IsLegal h t → KeepsPromises h t
-kept_of h t legal = record {
-  legal = legal;
-  spaced = spaced h t legal;
-  own = own h t legal;
-  apart = apart h t legal;
-}

@@ -32,7 +32,8 @@ use Rattle.s10_world.specs.World.{Acceptance, WorldState, after_submit_by, Sends
 use Rattle.s10_world.specs.World.{ReachesServer, DeliversReply}
 use Rattle.s10_world.specs.Parts.{acceptance}
 use Rattle.s10_world.proofs.Places.{set_same}
-use Rattle.s10_world.proofs.Once.{once_one, none_asked, one_asked, room_at}
+use Rattle.s10_ends.proofs.Applied.{once_one}
+use Rattle.s10_world.proofs.Once.{none_asked, one_asked, room_at}
 
 pub submit_refused : (w : WorldState) (k : ℕ) (body : Body) (c c' : ClientState)
     (fault : SubmitFault) (submitted : List (ℕ × Request))

@@ -1,5 +1,5 @@
 use Rattle.std.proofs.Common.{◌≡◌, inl, [], List, Option, Some, None, map, refl, sym, ap, subst}
-use Rattle.std.proofs.Common.{◌∙◌, All, IsTrue, arith}
+use Rattle.std.proofs.Common.{◌∙◌, All, IsTrue, arith, ◌∷◌}
 use Rattle.std.proofs.lemmas.List.Elements.{All-push}
 use Rattle.sqlite_trees.specs.View.{is_int}
 use Rattle.sqlite_value.specs.Order.{Row, column}
@@ -7,8 +7,9 @@ use Rattle.s10_statements.specs.Shown.{shown_serial, serial_front}
 use Rattle.std.proofs.lemmas.Result.{err_from_is_err_and}
 use Rattle.sqlite.specs.Given.{Advances, row_if}
 use Rattle.s10_statements.proofs.RowByRow.{failed_leaves, begun_spares, begun, stepped, stopped}
-use Rattle.s10_statements.proofs.RowByRow.{ended, failed_moves, map_push, map_snoc, on_err, if_err}
+use Rattle.s10_statements.proofs.RowByRow.{ended, failed_moves, map_push, on_err, if_err}
 use Rattle.s10_statements.proofs.streams.stream_serials.Goals as goal
+use Rattle.std.proofs.lemmas.List.{map-append}
 
 pub rows-init : goal.rows-init
 rows-init g c =
@@ -38,7 +39,7 @@ rows-preserved g c =
             map_push shown_serial c.rows.serials.items c.push.new.self.items
                 c.in_ok-serial_with_rowid_in.field-0 (map serial_front rows) (serial_front row)
                 (c.in_ok-push.ensures.items) was.0 c.in_ok-serial_with_rowid_in.ensures.columns
-                ∙ sym (map_snoc serial_front rows row),
+                ∙ sym (map-append serial_front rows (row ∷ [])),
             All-push (λ (r : Row). IsTrue (is_int (column r 7))) rows row was.1
                 c.in_ok-serial_with_rowid_in.ensures.numbered,
           ));

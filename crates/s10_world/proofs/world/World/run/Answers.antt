@@ -7,7 +7,7 @@ use Rattle.s10_world.proofs.Kept.{run_sound}
 use Rattle.s10_world.proofs.Told.{agrees, once}
 use Rattle.s10_world.proofs.Unshared.{unshared}
 use Rattle.s10_world.proofs.Clients.{run_own}
-use Rattle.s10_world.proofs.Reached.{kept_of}
+use Rattle.s10_ends.proofs.Runs.{KeepsPromises-legal}
 use Rattle.s10_world.proofs.world.World.run.Goals as goal
 
 pub invariant_of-self : goal.invariant_of-self
@@ -17,7 +17,7 @@ invariant_of-self g c = λ h. run_sound _ _ _ _ c.run.result (c.run.ensures.ok h
 pub returns-clause-kept : goal.returns-clause-kept
 returns-clause-kept g c = λ h.
     let book = book_of (server_of c.run.new.self) in
-    kept_of (g.B.Book.history book) (g.B.Book.terms book) (g.met.B.Book.legal book h)
+    KeepsPromises-legal (g.B.Book.history book) (g.B.Book.terms book) (g.met.B.Book.legal book h)
 
 pub returns-clause-agrees : goal.returns-clause-agrees
 returns-clause-agrees g c = λ h.
