@@ -91,6 +91,7 @@ pub fn grant_write(entry: &Entry) -> Option<RangeWrite>
         → MakesWrites h entry.now (option_to_list result) [] }
     ensures some { (h : List Entry) (t : Terms) (n : ℕ) → MayFollow h t entry.now
         → entry.now.outcome ≡ Granted n → IsSome result }
+    ensures none { ((n : ℕ) → ¬ (entry.now.outcome ≡ Granted n)) → result ≡ None }
 {
     let Outcome::Granted { range: num } = entry.outcome else {
         return None;

@@ -20,3 +20,6 @@ returns-clause-made c = λ h t num legal may is.
     sym (c.of.ensures ∙ ap (λ (mark : ℕ). range_row mark r) c.value.ensures.value) in
     let P : RangeRow → Type 0 = λ s. MakesWrites h c.args.entry.now (New s ∷ []) [] in
     subst P row (grant_makes h t c.args.entry.now n r legal may c.in-Granted.is made)
+
+pub returns-clause-none : goal.returns-clause-none
+returns-clause-none c = λ none. absurd (none c.in-Granted.num c.in-Granted.is)
