@@ -1,1 +1,2 @@
 pub mod Schema
+pub mod Columns

@@ -51,95 +51,58 @@ pub record IsBare (t : Table) : Type 0 where
   pub stamps : t.stamps ≡ record { places = []; terms = []; formats = [] }
   pub uncounted : t.is_counted ≡ false
 
--- The table head.
-abbrev pub head_table : Table
-head_table = record {
-  name = codes "head";
-  tree = 0;
-  columns = integer (codes "one") ∷ integer (codes "schema") ∷ integer (codes "interval")
-      ∷ integer (codes "cap") ∷ [];
+-- A table whose first column is the rowid, with no rules but this key.
+abbrev pub keyed_table : List ℕ → ℕ → List Column → Table
+keyed_table name tree columns = record {
+  name = name;
+  tree = tree;
+  columns = columns;
   key = Some 0;
   primary = 0 ∷ [];
   uniques = [];
   orders = [];
-  checks = one_is_one ∷ [];
+  checks = [];
   references = [];
   computed = [];
   stamps = record { places = []; terms = []; formats = [] };
   is_counted = false;
 }
+
+-- The table head.
+abbrev pub head_table : Table
+head_table = record (keyed_table (codes "head") 0 (integer (codes "one") ∷ integer (codes "schema")
+    ∷ integer (codes "interval") ∷ integer (codes "cap") ∷ [])) { checks = one_is_one ∷ [] }
 
 -- The table calls.
 abbrev pub calls_table : Table
-calls_table = record {
-  name = codes "calls";
-  tree = 1;
-  columns = integer (codes "arrival") ∷ integer (codes "customer") ∷ integer (codes "number")
-      ∷ integer (codes "day") ∷ column_of (codes "reply") Blob ∷ [];
-  key = Some 0;
-  primary = 0 ∷ [];
-  uniques = (2 ∷ 3 ∷ []) ∷ [];
-  orders = plain ∷ [];
-  checks = [];
-  references = [];
-  computed = [];
-  stamps = record { places = []; terms = []; formats = [] };
-  is_counted = false;
-}
+calls_table = record (keyed_table (codes "calls") 1 (integer (codes "arrival")
+    ∷ integer (codes "customer") ∷ integer (codes "number") ∷ integer (codes "day")
+    ∷ column_of (codes "reply") Blob ∷ [])) {
+      uniques = (2 ∷ 3 ∷ []) ∷ [];
+      orders = plain ∷ [];
+    }
 
 -- The table ranges.
 abbrev pub ranges_table : Table
-ranges_table = record {
-  name = codes "ranges";
-  tree = 3;
-  columns = integer (codes "num") ∷ integer (codes "holder") ∷ integer (codes "pair")
-      ∷ integer (codes "low") ∷ integer (codes "high") ∷ integer (codes "mark") ∷ [];
-  key = Some 0;
-  primary = 0 ∷ [];
-  uniques = [];
-  orders = [];
-  checks = [];
-  references = [];
-  computed = [];
-  stamps = record { places = []; terms = []; formats = [] };
-  is_counted = false;
-}
+ranges_table = keyed_table (codes "ranges") 3 (integer (codes "num") ∷ integer (codes "holder")
+    ∷ integer (codes "pair") ∷ integer (codes "low") ∷ integer (codes "high")
+    ∷ integer (codes "mark") ∷ [])
 
 -- The table serials.
 abbrev pub serials_table : Table
-serials_table = record {
-  name = codes "serials";
-  tree = 4;
-  columns = integer (codes "pair") ∷ integer (codes "serial") ∷ integer (codes "arrival")
-      ∷ integer (codes "day") ∷ integer (codes "customer") ∷ integer (codes "number")
-      ∷ integer (codes "voided") ∷ [];
-  key = None;
-  primary = 1 ∷ 2 ∷ [];
-  uniques = (1 ∷ 2 ∷ []) ∷ [];
-  orders = plain ∷ [];
-  checks = [];
-  references = [];
-  computed = [];
-  stamps = record { places = []; terms = []; formats = [] };
-  is_counted = false;
-}
+serials_table = record (keyed_table (codes "serials") 4 (integer (codes "pair")
+    ∷ integer (codes "serial") ∷ integer (codes "arrival") ∷ integer (codes "day")
+    ∷ integer (codes "customer") ∷ integer (codes "number") ∷ integer (codes "voided") ∷ [])) {
+      key = None;
+      primary = 1 ∷ 2 ∷ [];
+      uniques = (1 ∷ 2 ∷ []) ∷ [];
+      orders = plain ∷ [];
+    }
 
 -- The table closed.
 abbrev pub closed_table : Table
-closed_table = record {
-  name = codes "closed";
-  tree = 6;
-  columns = integer (codes "num") ∷ integer (codes "arrival") ∷ [];
-  key = Some 0;
-  primary = 0 ∷ [];
-  uniques = [];
-  orders = [];
-  checks = [];
-  references = [];
-  computed = [];
-  stamps = record { places = []; terms = []; formats = [] };
-  is_counted = false;
-}
+closed_table = keyed_table (codes "closed") 6 (integer (codes "num") ∷ integer (codes "arrival")
+    ∷ [])
 
 -- The index that SQLite creates for the key of calls.
 abbrev pub calls_index : Index

@@ -25,6 +25,7 @@ use Rattle.s10_rows.specs.declared.closed_row.ClosedRow.{ClosedRow}
 use Rattle.s10_rows.specs.CallRow.{StoredCall}
 use Rattle.s10_schema.specs.Schema.{IsLedgerSchema, IsClosedSchema}
 use Rattle.s10_schema.specs.Schema.{others_in, others_after_closed}
+use Rattle.s10_schema.specs.Schema.{head_table, calls_table, ranges_table, serials_table, closed_table}
 use Rattle.s10_statements.specs.Shown.{shown_call, shown_range, shown_serial, shown_closed}
 use Rattle.s10_statements.specs.Shown.{head_columns, call_columns, range_columns, serial_columns}
 use Rattle.s10_statements.specs.Shown.{closed_columns, serial_from}
@@ -32,10 +33,10 @@ use Rattle.s10_rows.specs.Selected.{is_within}
 use Rattle.s10_statements.specs.Statements.{select_head_sql, select_calls_sql, select_ranges_sql}
 use Rattle.s10_statements.specs.Statements.{select_serials_within_sql, select_serials_sql}
 use Rattle.s10_statements.specs.Statements.{select_closed_sql}
-use Rattle.s10_statements.proofs.Texts.{read_of, IsQuery, by_one, by_pair, head_terms, head_read}
-use Rattle.s10_statements.proofs.Texts.{call_terms, calls_query, calls_read, range_terms}
-use Rattle.s10_statements.proofs.Texts.{ranges_read, within_tests, serial_terms, within_read}
-use Rattle.s10_statements.proofs.Texts.{wide_terms, serials_read, closed_terms, closed_read}
+use Rattle.s10_statements.proofs.Texts.{read_of, IsQuery, by_one, by_pair, head_read}
+use Rattle.s10_statements.proofs.Texts.{calls_query, calls_read}
+use Rattle.s10_statements.proofs.Texts.{ranges_read, within_tests, within_read}
+use Rattle.s10_statements.proofs.Texts.{wide_terms, serials_read, closed_read, terms_in}
 use Rattle.s10_statements.proofs.ReadLemmas.{kept_are, rows_are, rows_rise, selected}
 
 abbrev pub wide_columns : Row → Row
@@ -120,19 +121,19 @@ module _ (params : Row) (old new : State) (rows : List Row)
   pub head_shows : Shown select_head_sql params old new rows
       → IsPermutation (map head_columns (old.now.trees 0)) rows
   head_shows h = subst (λ vs. IsPermutation vs rows) (all_pass (map head_columns (old.now.trees 0)))
-      (shows_passing 0 [] head_terms by_one (head_read o) params old new rows has.is h head_columns
+      (shows_passing 0 [] (terms_in head_table) by_one (head_read o) params old new rows has.is h head_columns
       first_key
       always (λ r. refl) (λ r. refl))
 
   pub calls_answers : Shown select_calls_sql params old new rows
       → IsAnswer calls_query (overlay old.now.trees []) params rows
-  calls_answers h = answers 1 [] call_terms by_one (calls_read o) params old new rows has.is h
+  calls_answers h = answers 1 [] (terms_in calls_table) by_one (calls_read o) params old new rows has.is h
 
   pub calls_shows : Shown select_calls_sql params old new rows
       → IsPermutation (map call_columns (old.now.trees 1)) rows
   calls_shows h = subst (λ vs. IsPermutation vs rows) (all_pass (map call_columns (old.now.trees
       1)))
-      (shows_passing 1 [] call_terms by_one (calls_read o) params old new rows has.is h
+      (shows_passing 1 [] (terms_in calls_table) by_one (calls_read o) params old new rows has.is h
       call_columns first_key
       always (λ r. refl) (λ r. refl))
 
@@ -140,13 +141,13 @@ module _ (params : Row) (old new : State) (rows : List Row)
       → IsPermutation (map range_columns (old.now.trees 3)) rows
   ranges_shows h = subst (λ vs. IsPermutation vs rows) (all_pass (map range_columns (old.now.trees
       3)))
-      (shows_passing 3 [] range_terms by_one (ranges_read o) params old new rows has.is h
+      (shows_passing 3 [] (terms_in ranges_table) by_one (ranges_read o) params old new rows has.is h
       range_columns first_key
       always (λ r. refl) (λ r. refl))
 
   pub within_shows : Shown select_serials_within_sql params old new rows
       → IsPermutation (filter (within_test params) (map serial_columns (old.now.trees 4))) rows
-  within_shows h = shows_passing 4 within_tests serial_terms by_pair (within_read o) params old new
+  within_shows h = shows_passing 4 within_tests (terms_in serials_table) by_pair (within_read o) params old new
       rows has.is h serial_columns pair_key (within_test params) (λ r. refl) (λ r. refl)
 
   pub serials_shows : Shown select_serials_sql params old new rows
@@ -162,7 +163,7 @@ module _ (params : Row) (old new : State) (rows : List Row)
       xs
       → IsPermutation (map shown_call xs) (map call_columns (old.now.trees 1))
       → Shown select_calls_sql params old new rows → rows ≡ map shown_call xs
-  calls_rise xs up same h = rises 1 [] call_terms by_one (calls_read o) params old new rows has.is h
+  calls_rise xs up same h = rises 1 [] (terms_in calls_table) by_one (calls_read o) params old new rows has.is h
       call_columns first_key always (λ r. refl) (λ r. refl) shown_call (λ x. x.arrival)
       (λ a b less. rw (value_less a.arrival b.arrival less)) xs up
       (subst (IsPermutation (map shown_call xs)) (sym (all_pass (map call_columns (old.now.trees
@@ -172,7 +173,7 @@ module _ (params : Row) (old new : State) (rows : List Row)
   pub ranges_rise : (xs : List RangeRow) → IsAscending (λ a b. int_cmp a.num b.num ≡ Less) xs
       → IsPermutation (map shown_range xs) (map range_columns (old.now.trees 3))
       → Shown select_ranges_sql params old new rows → rows ≡ map shown_range xs
-  ranges_rise xs up same h = rises 3 [] range_terms by_one (ranges_read o) params old new rows
+  ranges_rise xs up same h = rises 3 [] (terms_in ranges_table) by_one (ranges_read o) params old new rows
       has.is h
       range_columns first_key always (λ r. refl) (λ r. refl) shown_range (λ x. x.num)
       (λ a b less. rw (value_less a.num b.num less)) xs up
@@ -188,7 +189,7 @@ module _ (params : Row) (old new : State) (rows : List Row)
       → IsPermutation (map closed_columns (old.now.trees 6)) rows
   closed_shows h = subst (λ vs. IsPermutation vs rows) (all_pass (map closed_columns (old.now.trees
       6)))
-      (shows_passing 6 [] closed_terms by_one (closed_read after) params old new rows has.is h
+      (shows_passing 6 [] (terms_in closed_table) by_one (closed_read after) params old new rows has.is h
       closed_columns first_key
       always (λ r. refl) (λ r. refl))
 
@@ -196,7 +197,7 @@ module _ (params : Row) (old new : State) (rows : List Row)
   pub closed_rise : (xs : List ClosedRow) → IsAscending (λ a b. int_cmp a.num b.num ≡ Less) xs
       → IsPermutation (map shown_closed xs) (map closed_columns (old.now.trees 6))
       → Shown select_closed_sql params old new rows → rows ≡ map shown_closed xs
-  closed_rise xs up same h = rises 6 [] closed_terms by_one (closed_read after) params old new rows
+  closed_rise xs up same h = rises 6 [] (terms_in closed_table) by_one (closed_read after) params old new rows
       has.is h
       closed_columns first_key always (λ r. refl) (λ r. refl) shown_closed (λ x. x.num)
       (λ a b less. rw (value_less a.num b.num less)) xs up

@@ -1,6 +1,6 @@
 -- Defines how SQL shows the rows of the five tables, and which tables a database has.
-use Rattle.std.specs.Prelude.{◌≡◌, ℕ, ℤ, pos, IsTrue, List, [], ◌∷◌, map}
-use Rattle.std.specs.List.{AllByRecursion}
+use Rattle.std.specs.Prelude.{◌≡◌, ℕ, ℤ, pos, IsTrue, List, [], ◌∷◌, map, length}
+use Rattle.std.specs.List.{AllByRecursion, range_with_len}
 use Rattle.sqlite_value.specs.declared.value.Value.{Value}
 use Rattle.sqlite_value.specs.declared.value.Value.TheVariants.{Null, Int, Real, Text, Blob}
 use Rattle.sqlite_value.specs.Order.{Row, column}
@@ -15,7 +15,9 @@ use Rattle.s10_rows.specs.declared.serial_row.SerialRow.{SerialRow}
 use Rattle.s10_rows.specs.declared.closed_row.ClosedRow.{ClosedRow}
 use Rattle.s10_rows.specs.CallRow.{StoredCall}
 use Rattle.s10_rows.specs.Tables.{Tables, HaveSameRows, tables_of}
-use Rattle.s10_schema.specs.Schema.{IsClosedSchema, four_tables}
+use Rattle.s10_schema.specs.Schema.{IsClosedSchema, head_table, calls_table, ranges_table}
+use Rattle.s10_schema.specs.Schema.{serials_table, closed_table, four_tables}
+use Rattle.s10_schema.specs.Columns.{columns_in}
 
 -- A row of head as SQL shows it.
 abbrev pub shown_head : HeadRow → Row
@@ -102,30 +104,27 @@ closed_from v = record { num = int_in (column v 0); arrival = int_in (column v 1
 
 -- The columns of a row of serials that is shown with its rowid after them.
 abbrev pub serial_front : Row → Row
-serial_front v = column v 0 ∷ column v 1 ∷ column v 2 ∷ column v 3 ∷ column v 4 ∷ column v 5
-    ∷ column v 6 ∷ []
+serial_front v = map (column v) (range_with_len 0 (length serials_table.columns))
 
--- The columns of a stored row of head. A stored row begins with its rowid. That is the primary key
--- in each table but serials, and the position of that column holds no value.
+-- The columns of a stored row of head.
 abbrev pub head_columns : Row → Row
-head_columns r = column r 0 ∷ column r 2 ∷ column r 3 ∷ column r 4 ∷ []
+head_columns r = columns_in head_table r
 
 -- The columns of a stored row of calls.
 abbrev pub call_columns : Row → Row
-call_columns r = column r 0 ∷ column r 2 ∷ column r 3 ∷ column r 4 ∷ column r 5 ∷ []
+call_columns r = columns_in calls_table r
 
 -- The columns of a stored row of ranges.
 abbrev pub range_columns : Row → Row
-range_columns r = column r 0 ∷ column r 2 ∷ column r 3 ∷ column r 4 ∷ column r 5 ∷ column r 6 ∷ []
+range_columns r = columns_in ranges_table r
 
 -- The columns of a stored row of serials.
 abbrev pub serial_columns : Row → Row
-serial_columns r = column r 1 ∷ column r 2 ∷ column r 3 ∷ column r 4 ∷ column r 5 ∷ column r 6
-    ∷ column r 7 ∷ []
+serial_columns r = columns_in serials_table r
 
 -- The columns of a stored row of closed.
 abbrev pub closed_columns : Row → Row
-closed_columns r = column r 0 ∷ column r 2 ∷ []
+closed_columns r = columns_in closed_table r
 
 -- The rowid is an integer.
 abbrev pub HasIntegerRowid : Row → Type 0
