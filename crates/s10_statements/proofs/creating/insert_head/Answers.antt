@@ -16,8 +16,8 @@ returns g c =
     c.params-to_sql-2.ensures ∙ ap (λ (n : ℕ). Int (pos n)) c.limit-limit.ensures.value in
     ran c.in_ok-execute.ensures.same_reference c.in_ok-execute.ensures.survives
     c.in_ok-execute.ensures.runs (λ opened did. let h = rw (interval_is, limit_is) at did in (
-      λ tables held. begins old new c.args.settings c.in_ok-execute.field-0 tables held h,
-      λ tables held. as_declared old new c.args.settings c.in_ok-execute.field-0 tables held h,
+      λ tables held. begins old new c.in_ok-execute.field-0 tables held c.args.settings h,
+      λ tables held. as_declared old new c.in_ok-execute.field-0 tables held c.args.settings h,
     ))
 
 pub returns-in_err-execute : goal.returns-in_err-execute

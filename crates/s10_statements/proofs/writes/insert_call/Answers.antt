@@ -18,8 +18,7 @@ returns g c =
     c.in_ok-execute.ensures.runs (λ opened did. (
       opened,
       λ tables held. keeps (state g.S.Store c.args.tx.now.conn.now) (state g.S.Store
-          c.execute.new.self.conn.now) row
-          c.in_ok-execute.field-0 tables held
+          c.execute.new.self.conn.now) c.in_ok-execute.field-0 tables held row
           (rw (
             c.params-to_sql.ensures,
             c.params-to_sql-2.ensures,

@@ -17,8 +17,8 @@ returns g c =
     ran c.in_ok-execute.ensures.same_reference c.in_ok-execute.ensures.survives
     c.in_ok-execute.ensures.runs (λ opened did tables held. adds_range (state g.S.Store
     c.args.tx.now.conn.now)
-    (state g.S.Store c.execute.new.self.conn.now) c.args.range.now c.in_ok-execute.field-0 tables
-    held
+    (state g.S.Store c.execute.new.self.conn.now) c.in_ok-execute.field-0 tables held
+    c.args.range.now
     (rw (num_is, holder_is, pair_is, low_is, high_is, mark_is) at did))
 
 pub returns-in_err-execute : goal.returns-in_err-execute
