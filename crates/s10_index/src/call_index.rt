@@ -37,6 +37,8 @@ pub struct CallIndex {
     positions: HashMap<CallKey, u32>,
     /// The last issue of each identifier.
     pub(crate) issues: HashMap<IdKey, Issue>,
+    /// How the call that was prepared last moves the marks. Kept from call to call for its memory.
+    moves: Vec<MarkMove>,
     ghost fitting: { All (λ e. IsTrue (fits e.request.body e.outcome)) entries.items },
 }
 
@@ -52,6 +54,7 @@ impl CallIndex {
             ranges: Ranges::new(alloc),
             positions: HashMap::new(alloc),
             issues: HashMap::new(alloc),
+            moves: Vec::new(alloc),
         }
     }
 
@@ -67,6 +70,13 @@ impl CallIndex {
         ensures { result.now ≡ self.now.ranges }
     {
         &self.ranges
+    }
+
+    /// Returns how the call that was prepared last moves the marks.
+    pub fn moves(&self) -> &[MarkMove]
+        ensures { result.now ≡ self.now.moves.items }
+    {
+        &self.moves
     }
 
     /// Returns the day of the last call, or 0 if there is none.
@@ -152,16 +162,20 @@ impl CallIndex {
         Candidate { serial, issue }
     }
 
-    /// Reserves memory for a call and all that it records. The calls stay the same.
+    /// Reserves memory for a call and all that it records, and computes how it moves the marks. The
+    /// calls stay the same.
     ///
     /// # Errors
     ///
     /// `AllocError` if the memory cannot be allocated.
-    pub fn reserve(&mut self, entry: &Entry) -> Result<(), AllocError>
+    pub fn prepare(&mut self, entry: &Entry) -> Result<(), AllocError>
         ensures calls { self.new.entries.items ≡ self.old.entries.items }
         ensures same { (h : List Entry) → Indexes self.old h → Indexes self.new h }
         ensures room { OnOk result (HasRoomFor self.new entry.now) }
+        ensures moves { (h : List Entry) (t : Terms) → IsLegal h t → MayFollow h t entry.now
+            → Indexes self.old h → OnOk result (AreMoves h entry.now self.new.moves.items) }
     {
+        self.ranges.moves_of(entry, &mut self.moves)?;
         self.ranges.reserve()?;
         self.positions.reserve(1)?;
         self.issues.reserve(entry.issued())?;
@@ -170,19 +184,18 @@ impl CallIndex {
 
     /// Adds a call and records what it did.
     ///
-    /// `moves` are those that `Ranges::moves_of` returns for the call. Requires memory reserved for the
-    /// call by `reserve`, and an outcome that fits the request.
-    pub fn follow(&mut self, entry: Entry, moves: &[MarkMove])
+    /// Requires that the call was prepared by `prepare`, and that its outcome fits its request.
+    pub fn follow(&mut self, entry: Entry)
         requires room { HasRoomFor self.old entry }
         requires few { length self.old.entries.items < 4294967295 }
         requires fits { IsTrue (fits entry.request.body entry.outcome) }
         ensures calls { self.new.entries.items ≡ self.old.entries.items ++ entry ∷ [] }
         ensures followed { (h : List Entry) (t : Terms) → IsLegal h t → MayFollow h t entry
-            → AreMoves h entry moves.now → Indexes self.old h
+            → AreMoves h entry self.old.moves.items → Indexes self.old h
             → Indexes self.new (h ++ entry ∷ []) }
     {
         let place = self.calls().len() as u32;
-        self.ranges.follow(&entry, moves);
+        self.ranges.follow(&entry, &self.moves);
         record_position(&mut self.positions, &entry, place);
         record_call(&mut self.issues, &entry);
         self.entries.push_reserved(entry);

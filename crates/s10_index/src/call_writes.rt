@@ -20,7 +20,6 @@ use crate::issue_writes::issue_writes_of;
 use crate::row_writes::RowWrites;
 use s10_book::BookFault;
 use s10_history::Entry;
-use s10_ranges::MarkMove;
 use s10_replay::{grant_write, void_write};
 use s10_rows::CallWrite;
 use s10_wire::{Body, Outcome, Reply, encode_reply};
@@ -70,30 +69,28 @@ fn void_writes(alloc: Global, index: &CallIndex, entry: &Entry) -> Result<RowWri
 fn call_row_writes(
     alloc: Global,
     index: &CallIndex,
-    moves: &[MarkMove],
     arrival: u32,
     entry: &Entry,
 ) -> Result<RowWrites, BookFault>
     ensures fault { result ≢ Err Full }
     ensures done { (h : List Entry) (t : Terms) → IsLegal h t → MayFollow h t entry.now
-        → length h < 4294967295 → Indexes index.now h → AreMoves h entry.now moves.now
+        → length h < 4294967295 → Indexes index.now h → AreMoves h entry.now index.now.moves.items
         → IfErr result (λ f. f ≡ BookFault.Memory) }
     ensures answer { (h : List Entry) (t : Terms) → IsLegal h t → MayFollow h t entry.now
-        → All IsCall h → IsCall entry.now → Indexes index.now h → AreMoves h entry.now moves.now
+        → All IsCall h → IsCall entry.now → Indexes index.now h → AreMoves h entry.now index.now.moves.items
         → arrival ≡ length h + 1
         → IfOk result (λ made. MakesWrites h entry.now made.ranges.items made.serials.items) }
 {
     match entry.outcome {
         Outcome::Granted { .. } => grant_writes(alloc, entry),
         Outcome::Voided => void_writes(alloc, index, entry),
-        _ => issue_writes_of(alloc, moves, arrival, entry),
+        _ => issue_writes_of(alloc, index.moves(), arrival, entry),
     }
 }
 
-/// Returns what a call writes after the calls of the index.
+/// Returns what the call that was prepared last writes after the calls of the index.
 ///
-/// `moves` are those that `Ranges::moves_of` returns for the call. `arrival` is that of the call: one
-/// more than the number of calls in the index.
+/// `arrival` is that of the call: one more than the number of calls in the index.
 ///
 /// # Errors
 ///
@@ -102,18 +99,17 @@ fn call_row_writes(
 pub fn call_write(
     alloc: Global,
     index: &CallIndex,
-    moves: &[MarkMove],
     arrival: u32,
     entry: &Entry,
 ) -> Result<CallWrite, BookFault>
     ensures fault { result ≢ Err Full }
     ensures done { (h : List Entry) (t : Terms) → IsLegal h t → MayFollow h t entry.now
-        → length h < 4294967295 → Indexes index.now h → AreMoves h entry.now moves.now
+        → length h < 4294967295 → Indexes index.now h → AreMoves h entry.now index.now.moves.items
         → IfErr result (λ f. f ≡ BookFault.Memory) }
     ensures same { IfOk result (λ write. write.entry ≡ entry.now) }
     ensures fits { IfOk result (λ write. IsTrue (fits entry.now.request.body entry.now.outcome)) }
     ensures answer { (h : List Entry) (t : Terms) → IsLegal h t → MayFollow h t entry.now
-        → All IsCall h → Indexes index.now h → AreMoves h entry.now moves.now
+        → All IsCall h → Indexes index.now h → AreMoves h entry.now index.now.moves.items
         → arrival ≡ length h + 1
         → IfOk result (λ write. IsCall entry.now × Writes write (tables_of h t)
         (tables_of (h ++ entry.now ∷ []) t)) }
@@ -122,7 +118,7 @@ pub fn call_write(
     let Some(reply) = Reply::new(entry.request, entry.outcome) else {
         return Err(BookFault::Store);
     };
-    let made = call_row_writes(alloc, index, moves, arrival, entry)?;
+    let made = call_row_writes(alloc, index, arrival, entry)?;
     Ok(CallWrite {
         arrival,
         entry: *entry,

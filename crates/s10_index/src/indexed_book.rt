@@ -27,8 +27,6 @@ use std::alloc::{AllocError, Global};
 /// `usage` looks up each serial of the range; no other read walks the serials or the calls.
 #[derive(Drop)]
 pub struct IndexedBook {
-    /// The allocator of the moves of a call.
-    alloc: Global,
     /// The reuse interval in days and the limit.
     settings: Settings,
     /// The faults counted.
@@ -49,7 +47,6 @@ impl IndexedBook {
         ensures honest { ⟦<IndexedBook as Book>⟧.honest result }
     {
         IndexedBook {
-            alloc,
             settings,
             faults: Faults::none(),
             index: CallIndex::new(alloc),
@@ -76,9 +73,8 @@ impl IndexedBook {
     {
         // Brings len() <= MAX_LIMIT into scope.
         let _len = self.len();
-        let moves = self.index.ranges().moves_of(self.alloc, &entry)?;
-        self.index.reserve(&entry)?;
-        self.index.follow(entry, &moves);
+        self.index.prepare(&entry)?;
+        self.index.follow(entry);
         Ok(())
     }
 

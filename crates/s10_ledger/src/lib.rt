@@ -7,7 +7,6 @@ mod faults;
 mod lookups;
 mod opening;
 mod pending;
-mod prepared_call;
 mod refused;
 mod sql_book;
 

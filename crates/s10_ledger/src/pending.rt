@@ -25,7 +25,6 @@ ghost use Rattle.s10_ledger.specs.Faults.{IsReasonFor};
 ghost use Rattle.s10_ledger.specs.Pending.{calls_of, IsWriteOf, IsWrittenWith};
 
 use crate::faults::keep_failure;
-use crate::prepared_call::PreparedCall;
 use s10_book::BookFault;
 use s10_history::Entry;
 use s10_index::{CallIndex, call_write};
@@ -77,15 +76,14 @@ pub(crate) fn commit_calls<S: Alter>(
     }
 }
 
-// Reserves memory for the call in the index, whose calls are unchanged, and returns what the call
-// writes and moves after those of the index. `Store` if the limit is reached, `Memory` if out of
-// memory.
+// Prepares the index for the call, whose calls are unchanged, and returns what the call writes after
+// those of the index. `Store` if the limit is reached, `Memory` if out of memory.
 fn prepare_call(
     alloc: Global,
     index: &mut CallIndex,
     limit: u32,
     entry: &Entry,
-) -> Result<PreparedCall, BookFault>
+) -> Result<CallWrite, BookFault>
     requires limit { limit ≤ MAX_LIMIT }
     ensures fault { result ≢ Err Full }
     ensures same_calls { index.new.entries.items ≡ index.old.entries.items }
@@ -93,10 +91,10 @@ fn prepare_call(
     ensures few { OnOk result (length index.new.entries.items < MAX_LIMIT) }
     ensures room { OnOk result (HasRoomFor index.new entry.now) }
     ensures fits { OnOk result (IsTrue (fits entry.now.request.body entry.now.outcome)) }
-    ensures entry { IfOk result (λ call. call.write.entry ≡ entry.now) }
-    ensures writes { IfOk result (λ call. IsWriteOf index.old entry.now call.write) }
+    ensures entry { IfOk result (λ write. write.entry ≡ entry.now) }
+    ensures writes { IfOk result (IsWriteOf index.old entry.now) }
     ensures moves { (h : List Entry) (t : Terms) → IsLegal h t → MayFollow h t entry.now
-        → Indexes index.old h → IfOk result (λ call. AreMoves h entry.now call.moves.items) }
+        → Indexes index.old h → OnOk result (AreMoves h entry.now index.new.moves.items) }
     ensures memory { (h : List Entry) (t : Terms) → IsLegal h t → MayFollow h t entry.now
         → Indexes index.old h → t.limit ≤ limit → IfErr result (λ f. f ≡ BookFault.Memory) }
 {
@@ -104,14 +102,10 @@ fn prepare_call(
     if held >= limit as usize {
         return Err(BookFault::Store);
     }
-    if index.reserve(entry).is_err() {
+    if index.prepare(entry).is_err() {
         return Err(BookFault::Memory);
     }
-    let Ok(moves) = index.ranges().moves_of(alloc, entry) else {
-        return Err(BookFault::Memory);
-    };
-    let write = call_write(alloc, index, &moves, held as u32 + 1, entry)?;
-    Ok(PreparedCall { write, moves })
+    call_write(alloc, index, held as u32 + 1, entry)
 }
 
 // Appends the call to the index and to the pending calls, or leaves both as they are. `Store` if
@@ -141,11 +135,11 @@ pub(crate) fn append_pending(
     ensures memory { (h : List Entry) (t : Terms) → IsLegal h t → MayFollow h t entry.now
         → Indexes index.old h → t.limit ≤ limit → IfErr result (λ f. f ≡ BookFault.Memory) }
 {
-    let PreparedCall { write, moves } = prepare_call(alloc, index, limit, entry)?;
+    let write = prepare_call(alloc, index, limit, entry)?;
     if pending.push(write).is_err() {
         return Err(BookFault::Memory);
     }
-    index.follow(*entry, &moves);
+    index.follow(*entry);
     Ok(())
 }
 
@@ -195,7 +189,7 @@ pub(crate) fn keep_call<S: Alter>(
         entry }
     ensures works { OnOk result (last_failure.new ≡ None) }
 {
-    let PreparedCall { write: last, moves } = prepare_call(alloc, index, limit, &entry)?;
+    let last = prepare_call(alloc, index, limit, &entry)?;
     if pending.push(last).is_err() {
         return Err(BookFault::Memory);
     }
@@ -203,7 +197,7 @@ pub(crate) fn keep_call<S: Alter>(
         let _ = pending.pop();
         return Err(fault);
     }
-    index.follow(entry, &moves);
+    index.follow(entry);
     Ok(())
 }
 

@@ -50,7 +50,7 @@ impl Ranges {
     ghost use Rattle.s10_history.specs.declared.range.Range.{Range};
     ghost use Rattle.s10_ranges.specs.declared.mark.Mark.{Mark};
     ghost use Rattle.s10_history.specs.Settings.{Terms};
-    ghost use Rattle.std.specs.Prelude.{IfOk, IfSome, IsSome, take};
+    ghost use Rattle.std.specs.Prelude.{IfSome, IsSome, take};
     ghost use Rattle.s10_history.specs.History.{ranges_of, is_closed, is_open_after};
     ghost use Rattle.s10_history.specs.declared.issuance.Issuance.{Issuance};
     ghost use Rattle.s10_history.specs.Issues.{issues_at, issues_of};
@@ -163,22 +163,25 @@ impl Ranges {
         })
     }
 
-    /// Returns how the issuances of a call that may follow move the marks, in their order.
+    /// Replaces the contents of `moves` by how the issuances of a call that may follow move the
+    /// marks, in their order.
+    ///
+    /// Allocates only if `moves` has no room for them: its memory serves one call after another.
     ///
     /// # Errors
     ///
     /// `AllocError` if the memory cannot be allocated.
-    pub fn moves_of(&self, alloc: Global, entry: &Entry) -> Result<Vec<MarkMove>, AllocError>
+    pub fn moves_of(&self, entry: &Entry, moves: &mut Vec<MarkMove>) -> Result<(), AllocError>
         ensures { (h : List Entry) (t : Terms) → IsLegal h t → MayFollow h t entry.now
-            → Mirrors self.now h → IfOk result (λ moves. AreMoves h entry.now moves.items) }
+            → Mirrors self.now h → OnOk result (AreMoves h entry.now moves.new.items) }
     {
-        let mut moves = Vec::new(alloc);
+        moves.clear();
         for place in 0..entry.issued() {
             if let Some(next) = self.move_at(entry, place) {
                 moves.push(next)?;
             }
         }
-        Ok(moves)
+        Ok(())
     }
 
     // Sets the marks that the moves give, in their order.
@@ -220,7 +223,7 @@ impl Ranges {
     /// Follows a kept call: adds the range of a Done Grant, moves the marks for its issuances, and
     /// closes the range of a Done Withdraw.
     ///
-    /// `moves` are those that `moves_of` returns for the call. Requires memory reserved by
+    /// `moves` are those that `moves_of` gives for the call. Requires memory reserved by
     /// `reserve`. A granted range that lacks the next number, is empty or overlaps another is
     /// ignored: that happens only if the ranges are not those of a legal history that the call may
     /// follow.

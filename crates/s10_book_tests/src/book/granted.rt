@@ -56,7 +56,8 @@ pub(crate) fn numbered(rt: &impl Abort, num: u32) -> Option<Range> {
 }
 
 fn follow<R: Abort + AllocGlobal>(rt: &R, ranges: &mut Ranges, entry: &Entry) {
-    let moves = ranges.moves_of(rt.alloc(), entry).expect(rt, "moves");
+    let mut moves = Vec::new(rt.alloc());
+    ranges.moves_of(entry, &mut moves).expect(rt, "moves");
     ranges.reserve().expect(rt, "room");
     ranges.follow(entry, &moves);
 }

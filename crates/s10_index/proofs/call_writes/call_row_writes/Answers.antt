@@ -20,9 +20,9 @@ returns-in-Voided-clause-answer c h t legal follows calls call indexes moves arr
 
 pub returns-in_default-clause-done : goal.returns-in_default-clause-done
 returns-in_default-clause-done c h t legal follows few indexes moves =
-    c.issue_writes_of.ensures.done h moves
+    c.issue_writes_of.ensures.done h (rw c.moves.ensures moves)
 
 pub returns-in_default-clause-answer : goal.returns-in_default-clause-answer
 returns-in_default-clause-answer c h t legal follows calls call indexes moves arrival =
-    c.issue_writes_of.ensures.answer h t legal follows calls call moves arrival
+    c.issue_writes_of.ensures.answer h t legal follows calls call (rw c.moves.ensures moves) arrival
     c.in_default.not-Granted c.in_default.not-Voided

@@ -6,8 +6,8 @@ use Rattle.s10_ledger.proofs.pending.append_pending.Goals as goal
 
 pub returns-clause-written : goal.returns-clause-written
 returns-clause-written c = (
-  c.in_ok-write.field-0.write,
-  pushed c.push.result c.push.new.self.items c.args.pending.now.items c.in_ok-write.field-0.write
+  c.in_ok-write.write,
+  pushed c.push.result c.push.new.self.items c.args.pending.now.items c.in_ok-write.write
       (sym (c.if-is_err.ensures.value)) c.push.ensures.items,
   c.in_ok-write.ensures.entry,
   c.in_ok-write.ensures.writes,
@@ -27,12 +27,12 @@ returns-clause-few c = λ few. omega (
 
 pub returns-clause-followed : goal.returns-clause-followed
 returns-clause-followed c = λ h t legal follows indexed. c.follow.ensures.followed h t legal follows
-    (rw c.deref.ensures.value (c.in_ok-write.ensures.moves h t legal follows indexed))
+    (c.in_ok-write.ensures.moves h t legal follows indexed)
     (c.prepare_call.ensures.same_index h indexed)
 
 pub returns-then-is_err-clause-left : goal.returns-then-is_err-clause-left
 returns-then-is_err-clause-left c = not_pushed c.push.result c.push.new.self.items
-    c.args.pending.now.items c.in_ok-write.field-0.write (sym c.if-is_err.ensures.value)
+    c.args.pending.now.items c.in_ok-write.write (sym c.if-is_err.ensures.value)
     c.push.ensures.items
 
 pub follow-requires-clause-few : goal.follow-requires-clause-few

@@ -19,7 +19,7 @@ returns-clause-followed c h t legal follows moves was =
     let few : length h < 4294967295 = omega (arith, c.requires.few, ap length was.calls) in
     record {
       calls = c.push_reserved.ensures ∙ ap (λ (l : List Entry). l ++ c.args.entry ∷ []) was.calls;
-      ranges = c.follow.ensures h t legal follows few moves was.ranges;
+      ranges = c.follow.ensures h t legal follows few (rw c.deref.ensures.value moves) was.ranges;
       positions = c.record_position.ensures h was.positions (c.len-place.ensures
           ∙ ap length (c.calls.ensures ∙ was.calls)) follows.new_key;
       issues = c.record_call.ensures h t legal was.issues;

@@ -8,10 +8,10 @@ use Rattle.s10_index.proofs.indexed_book.IndexedBook.add.Goals as goal
 pub invariant_of-self : goal.invariant_of-self
 invariant_of-self c =
     let h = c.args.self.now.index.entries.items in
-    let same = c.reserve.ensures.calls in
+    let same = c.prepare.ensures.calls in
     record {
-      indexed = subst (Indexes c.reserve.new.self) (sym same)
-          (c.reserve.ensures.same h c.args.self.now.indexed);
+      indexed = subst (Indexes c.prepare.new.self) (sym same)
+          (c.prepare.ensures.same h c.args.self.now.indexed);
       legal = rw same c.args.self.now.legal;
       no_store_fault = c.args.self.now.no_store_fault;
     }
@@ -21,12 +21,12 @@ invariant_of-self-2 c =
     let h = c.args.self.now.index.entries.items in
     let t = c.args.self.now.settings in
     let grown : c.follow.new.self.entries.items ≡ h ++ c.args.entry ∷ [] = c.follow.ensures.calls
-    ∙ ap (λ (l : List Entry). l ++ c.args.entry ∷ []) c.reserve.ensures.calls in
+    ∙ ap (λ (l : List Entry). l ++ c.args.entry ∷ []) c.prepare.ensures.calls in
     record {
       indexed = subst (Indexes c.follow.new.self) (sym grown)
           (c.follow.ensures.followed h t c.args.self.now.legal c.requires
-          (rw c.deref.ensures.value (c.in_ok-moves.ensures h t c.args.self.now.legal c.requires
-          (rw c.ranges-2.ensures c.args.self.now.indexed.ranges))) (c.reserve.ensures.same h c.args.self.now.indexed));
+          (c.in_ok-prepare.ensures.moves h t c.args.self.now.legal c.requires
+          c.args.self.now.indexed) (c.prepare.ensures.same h c.args.self.now.indexed));
       legal = rw grown (IsLegal-push h t c.args.entry c.args.self.now.legal c.requires);
       no_store_fault = c.args.self.now.no_store_fault;
     }

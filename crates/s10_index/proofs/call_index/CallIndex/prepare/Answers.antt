@@ -1,6 +1,6 @@
 use Rattle.std.proofs.Common.{◌∙◌}
 use Rattle.s10_index.proofs.Reserving.{places_still, issues_still}
-use Rattle.s10_index.proofs.call_index.CallIndex.reserve.Goals as goal
+use Rattle.s10_index.proofs.call_index.CallIndex.prepare.Goals as goal
 
 pub returns-in_err-reserve-3-clause-same : goal.returns-in_err-reserve-3-clause-same
 returns-in_err-reserve-3-clause-same c h was = record {
