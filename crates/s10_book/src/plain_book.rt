@@ -123,14 +123,9 @@ fn candidate_after_in(
 {
     let pick = candidate_in(entries, issues, range);
     let serial = range.serial_after(pick.serial, issued);
-    let id = Id {
-        service: range.service,
-        serial,
-        country: range.country,
-    };
     Candidate {
         serial,
-        issue: last_issue_in(entries, issues, &id),
+        issue: last_issue_in(entries, issues, &range.id(serial)),
     }
 }
 

@@ -114,6 +114,7 @@ pub fn call_write(
         → IfOk result (λ write. IsCall entry.now × Writes write (tables_of h t)
         (tables_of (h ++ entry.now ∷ []) t)) }
 {
+    // Brings day < 2^32 into scope.
     let _day = entry.day;
     let Some(reply) = Reply::new(entry.request, entry.outcome) else {
         return Err(BookFault::Store);

@@ -58,6 +58,7 @@ impl IndexedBook {
         ensures indexed { Indexes result self.index.entries.items }
         ensures few { length result.entries.items ≤ MAX_LIMIT }
     {
+        // Brings len() <= MAX_LIMIT into scope.
         let _len = self.len();
         self.index
     }
@@ -120,6 +121,7 @@ impl Book for IndexedBook {
     }
 
     fn len(&self) -> u32 {
+        // Brings limit <= MAX_LIMIT into scope.
         let _limit = self.settings.limit();
         self.index.calls().len() as u32
     }

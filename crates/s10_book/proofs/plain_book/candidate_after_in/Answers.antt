@@ -18,7 +18,7 @@ returns c =
     (omega (arith, at, turns.high)) c.requires.fewer
     ∙ ap (λ m. serial_after_steps r m c.args.issued) at in
     let issue : c.last_issue_in.result ≡ last_issue_of h (id_at r c.serial_after-serial.result) =
-    c.last_issue_in.ensures in
+    c.last_issue_in.ensures ∙ ap (last_issue_of h) c.id.ensures in
     ap (λ (i : Option Issue). let x : Candidate = record {
       serial = c.serial_after-serial.result;
       issue = i;
