@@ -22,18 +22,7 @@ same_entry g h n x y same both is_x is_y =
     is_x ∙ ap (λ (l : List Entry). answer_of l x.request x.day n) same
     ∙ ap (λ (q : Request). answer_of h q x.day n) same_request
     ∙ ap (λ d. answer_of h y.request d n) same_day ∙ sym is_y in
-    let with_request : Request → Entry = λ q. record {
-      request = q;
-      day = x.day;
-      outcome = x.outcome;
-    } in
-    let with_day : ℕ → Entry = λ d. record { request = y.request; day = d; outcome = x.outcome } in
-    let with_outcome : Outcome → Entry = λ o. record {
-      request = y.request;
-      day = y.day;
-      outcome = o;
-    } in
-    ap with_request same_request ∙ ap with_day same_day ∙ ap with_outcome same_outcome
+    λ k. record { request = same_request k; day = same_day k; outcome = same_outcome k }
 
 same_length : (g h : List Entry) → map request_on_day g ≡ map request_on_day h → length g ≡ length h
 same_length g h same = sym (length-map g request_on_day) ∙ ap length same

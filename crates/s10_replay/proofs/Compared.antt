@@ -1,6 +1,6 @@
 -- The derived rows, and whether stored rows are the same.
 use Rattle.std.proofs.Common.{◌≡◌, Bool, true, false, cond, List, [], ◌∷◌, map, get_or, ℤ, ◌<ℤ◌}
-use Rattle.std.proofs.Common.{refl, sym, ap, ◌∙◌, subst, IsPermutation, IsSorted, Ordering, Less}
+use Rattle.std.proofs.Common.{refl, sym, subst, IsPermutation, IsSorted, Ordering, Less}
 use Rattle.std.proofs.Common.{Equal, Greater, is_eq}
 use Rattle.std.specs.Prelude.{All, ◌&&◌, ◌↔◌, IsTrue}
 use Rattle.std.specs.List.{list_any, AllByRecursion}
@@ -15,7 +15,7 @@ use Rattle.std.proofs.lemmas.Cmp.{int_ranked}
 use Rattle.std.proofs.lemmas.List.Elements.{All-head, All-tail, All-map}
 use Rattle.std.proofs.lemmas.List.Sorted.{IsPermutation-sym, IsPermutation-trans}
 use Rattle.s10_replay.specs.Ascending.{IsAscending}
-use Rattle.s10_replay.proofs.Sorting.{sorted_unique, sorted_is-sort_by}
+use Rattle.s10_replay.proofs.Sorting.{sorted_unique, sorted_alike}
 use Rattle.s10_core.specs.declared.id.Id.{Id}
 use Rattle.s10_history.specs.declared.entry.Entry.{Entry}
 use Rattle.s10_history.specs.declared.issuance.Issuance.{Issuance}
@@ -67,11 +67,10 @@ same_where_both_sorted cmp total apart made rows first second made' rows' b no_t
       λ t. ∣ IsPermutation-trans made made' rows perm (subst (λ l. IsPermutation l rows)
           (sym (same.0 t)) (IsPermutation-sym rows rows' perm')) ∣₁,
       λ h. ∥∥₁_elim like (So-prop b) (λ q. ∥∥₁_elim h (So-prop b) (λ p. same.1 (
-          sorted_is-sort_by cmp total apart made' no_ties (IsPermutation-trans apart made made' q
+          sorted_alike cmp total apart made' rows' no_ties (IsPermutation-trans apart made made' q
           perm) in_order
-          ∙ sym (sorted_is-sort_by cmp total apart rows' no_ties
           (IsPermutation-trans apart made rows' q (IsPermutation-trans made rows rows' p perm'))
-          in_order')))),
+          in_order'))),
     )
 
 -- Two lists with the same rows agree on whether they have the rows of a third list.
@@ -175,6 +174,9 @@ right_calls t rows right = All-map IsCall entry_of rows (λ k d lt.
     let r = row.replies in
     record { request = r.0; outcome = r.1; fitting = r.2; day = row.day_fits })
 
+both : {A B : Type 0} → A → B → A × B
+both a b = (a, b)
+
 -- Whether two rows are the same.
 pub range_decides : (a b : RangeRow)
     → Decides (int_eq a.num b.num
@@ -190,19 +192,8 @@ range_decides a b =
       high = p.1.1.1.1.0 i;
       mark = p.1.1.1.1.1 i;
     })
-    (λ e. (
-      ap (λ (r : RangeRow). r.num) e,
-      (
-        ap (λ (r : RangeRow). r.holder) e,
-        (
-          ap (λ (r : RangeRow). r.pair) e,
-          (
-            ap (λ (r : RangeRow). r.low) e,
-            (ap (λ (r : RangeRow). r.high) e, ap (λ (r : RangeRow). r.mark) e),
-          ),
-        ),
-      ),
-    ))
+    (λ e. both (λ i. (e i).num) (both (λ i. (e i).holder) (both (λ i. (e i).pair)
+    (both (λ i. (e i).low) (both (λ i. (e i).high) (λ i. (e i).mark))))))
     (Decides-and _ _ (Decides-int_eq a.num b.num)
     (Decides-and _ _ (Decides-int_eq a.holder b.holder)
     (Decides-and _ _ (Decides-int_eq a.pair b.pair)
@@ -213,7 +204,7 @@ pub closed_decides : (a b : ClosedRow)
     → Decides (int_eq a.num b.num && (int_eq a.arrival b.arrival)) (a ≡ b)
 closed_decides a b =
     Decides-like _ (λ p. λ i. record { num = p.0 i; arrival = p.1 i })
-    (λ e. (ap (λ (r : ClosedRow). r.num) e, ap (λ (r : ClosedRow). r.arrival) e))
+    (λ e. (λ i. (e i).num, λ i. (e i).arrival))
     (Decides-and _ _ (Decides-int_eq a.num b.num) (Decides-int_eq a.arrival b.arrival))
 
 pub serial_decides : (a b : SerialRow)
@@ -234,22 +225,9 @@ serial_decides a b =
       voided =
           p.1.1.1.1.1.1 i;
     })
-    (λ e. (
-      ap (λ (r : SerialRow). r.pair) e,
-      (
-        ap (λ (r : SerialRow). r.serial) e,
-        (
-          ap (λ (r : SerialRow). r.arrival) e,
-          (
-            ap (λ (r : SerialRow). r.day) e,
-            (
-              ap (λ (r : SerialRow). r.customer) e,
-              (ap (λ (r : SerialRow). r.number) e, ap (λ (r : SerialRow). r.voided) e),
-            ),
-          ),
-        ),
-      ),
-    ))
+    (λ e. both (λ i. (e i).pair) (both (λ i. (e i).serial) (both (λ i. (e i).arrival)
+    (both (λ i. (e i).day) (both (λ i. (e i).customer) (both (λ i. (e i).number)
+    (λ i. (e i).voided)))))))
     (Decides-and _ _ (Decides-int_eq a.pair b.pair)
     (Decides-and _ _ (Decides-int_eq a.serial b.serial)
     (Decides-and _ _ (Decides-int_eq a.arrival b.arrival)
