@@ -1,10 +1,9 @@
 -- What the reads find, as typed rows.
-use Rattle.std.proofs.Common.{◌≡◌, ℤ, List, [], ◌∷◌, map, filter, refl, sym, subst, ◌∙◌, int_cmp}
-use Rattle.std.proofs.Common.{Less, All, IsTrue, arith}
+use Rattle.std.proofs.Common.{◌≡◌, ℤ, List, map, filter, refl, sym, subst, ◌∙◌, int_cmp}
+use Rattle.std.proofs.Common.{Less, IsTrue}
 use Rattle.std.proofs.Math.Logic.{∥∥₁_elim, ∥∥₁_map}
 use Rattle.std.specs.List.Sorted.{IsPermutation}
 use Rattle.std.proofs.lemmas.List.Sorted.{IsPermutation-sym, IsPermutation-map}
-use Rattle.std.proofs.lemmas.List.Elements.{All-tail}
 use Rattle.std.specs.List.{AllByRecursion}
 use Rattle.sqlite_trees.specs.View.{is_int}
 use Rattle.sqlite_keyed.proofs.ListLemmas.{map-map, all_unmap}
@@ -34,10 +33,6 @@ use Rattle.s10_statements.proofs.AnswerLemmas.{calls_shows, calls_rise, ranges_s
 use Rattle.s10_statements.proofs.AnswerLemmas.{within_shows, within_params, within_test}
 use Rattle.s10_statements.proofs.AnswerLemmas.{within_selects, serials_shows}
 use Rattle.s10_statements.proofs.AnswerLemmas.{closed_shows, closed_rise}
-
-all_in_turn : {X : Type 0} (P : X → Type 0) (xs : List X) → All P xs → AllByRecursion P xs
-all_in_turn P [] each = tt
-all_in_turn P (x ∷ xs) each = (each 0 x (omega arith), all_in_turn P xs (All-tail P x xs each))
 
 whole : {X : Type 0} (shown : X → Row) (vs rows : List Row) (found : List X) → IsPermutation vs rows
     → map shown found ≡ rows → HaveSameRows (map shown found) vs
@@ -75,13 +70,12 @@ module _ (params : Row) (old new : State) (rows : List Row)
       (rw (map-map serial_front wide_columns (old.now.trees 4)) at wide) typed
 
   pub serials_numbered : Shown select_serials_sql params old new rows
-      → All (λ v. IsTrue (is_int (column v 7))) rows
+      → AllByRecursion (λ v. IsTrue (is_int (column v 7))) rows
       → AllByRecursion HasIntegerRowid (old.now.trees 4)
   serials_numbered h each =
       all_unmap (λ v. IsTrue (is_int (column v 7))) wide_columns (old.now.trees 4)
       (all_moved (λ v. IsTrue (is_int (column v 7))) rows (map wide_columns (old.now.trees 4))
-      (IsPermutation-sym _ _ (serials_shows params old new rows has h))
-      (all_in_turn (λ v. IsTrue (is_int (column v 7))) rows each))
+      (IsPermutation-sym _ _ (serials_shows params old new rows has h)) each)
 
   pub calls_in_order : (tables : Tables) → HasTables old.now tables
       → IsAscending (λ a b. int_cmp a.arrival b.arrival ≡ Less) tables.calls

@@ -1,9 +1,9 @@
 -- What reading rows one at a time leaves, and which rows it gives.
-use Rattle.std.proofs.Common.{◌≡◌, ◌≤◌, ◌⊎◌, inl, inr, IfOk, IfErr, OnErr, ap, map, List, []}
+use Rattle.std.proofs.Common.{◌≡◌, ◌≤◌, ◌⊎◌, inl, inr, IfOk, IfErr, OnErr, map, List, []}
 use Rattle.std.proofs.Common.{◌∷◌, ◌++◌, ℕ, Some, None, Ok, Err, Result, IsTrue, false, sym, subst}
-use Rattle.std.proofs.Common.{◌∙◌, arith}
-use Rattle.sqlite_value.specs.Order.{Row}
-use Rattle.sqlite_trees.specs.View.{doubt}
+use Rattle.std.proofs.Common.{◌∙◌, arith, ap₂, refl}
+use Rattle.sqlite_value.specs.Order.{Row, column}
+use Rattle.sqlite_trees.specs.View.{doubt, is_int}
 use Rattle.sqlite_trees.specs.declared.store.Store.{Ghosts}
 use Rattle.sqlite_schema.specs.declared.schema.Schema.{Schema}
 use Rattle.sqlite.specs.declared.error.Error.{Error}
@@ -20,7 +20,10 @@ use Rattle.s10_statements.specs.ConnectionState.{IsQuiescent, AddsNoCrashState}
 use Rattle.s10_statements.specs.Statements.{LeavesTables}
 use Rattle.s10_statements.proofs.StateLemmas.{read_open, read_same, read_settled, leaves_then}
 use Rattle.s10_statements.proofs.CrashLemmas.{commits_none, first, spared}
-use Rattle.std.proofs.lemmas.List.{map-append}
+use Rattle.std.specs.List.{AllZip, AllByRecursion}
+use Rattle.s10_rows.specs.CallRow.{StoredCall}
+use Rattle.s10_rows.specs.declared.serial_row.SerialRow.{SerialRow}
+use Rattle.s10_statements.specs.Shown.{shown_call, shown_serial, serial_front, ShowsCall, ShowsSerial}
 
 -- The text only reads, in the database of any ledger.
 abbrev pub OnlyReads : List ℕ → Type 0
@@ -254,11 +257,35 @@ module _ {S : Type 0} {g : Ghosts S} {sql : List ℕ} {params : Row} {P : List R
         was.3,
       )
 
+pushed : {A B : Type 0} (R : A → B → Type 0) (xs : List A) (x : A) (ys : List B) (y : B)
+    → AllZip R xs ys → R x y → AllZip R (xs ++ x ∷ []) (ys ++ y ∷ [])
+pushed R [] x [] y was is = (is, tt)
+pushed R [] x (b ∷ ys) y was is = absurd was
+pushed R (a ∷ xs) x [] y was is = absurd was
+pushed R (a ∷ xs) x (b ∷ ys) y was is = (was.0, pushed R xs x ys y was.1 is)
+
 -- One more typed row at the end.
-pub map_push : {A B : Type 0} (f : A → B) (xs new : List A) (x : A) (ys : List B) (y : B)
-    → new ≡ xs ++ x ∷ [] → map f xs ≡ ys → f x ≡ y → map f new ≡ ys ++ y ∷ []
-map_push f xs new x ys y e was is = ap (map f) e ∙ map-append f xs (x ∷ []) ∙ ap (λ l. l ++ f x ∷ []) was
-    ∙ ap (λ z. ys ++ z ∷ []) is
+pub zip_push : {A B : Type 0} (R : A → B → Type 0) (xs new : List A) (x : A) (ys : List B) (y : B)
+    → new ≡ xs ++ x ∷ [] → AllZip R xs ys → R x y → AllZip R new (ys ++ y ∷ [])
+zip_push R xs new x ys y e was is = subst (λ l. AllZip R l (ys ++ y ∷ [])) (sym e)
+    (pushed R xs x ys y was is)
+
+-- Typed rows that SQL shows so, one by one.
+pub calls_shown : (calls : List StoredCall) (rows : List Row) → AllZip ShowsCall calls rows
+    → map shown_call calls ≡ rows
+calls_shown [] [] each = refl
+calls_shown [] (y ∷ ys) each = absurd each
+calls_shown (x ∷ xs) [] each = absurd each
+calls_shown (x ∷ xs) (y ∷ ys) each = ap₂ ◌∷◌ each.0 (calls_shown xs ys each.1)
+
+pub serials_shown : (serials : List SerialRow) (rows : List Row) → AllZip ShowsSerial serials rows
+    → (map shown_serial serials ≡ map serial_front rows)
+    × AllByRecursion (λ row. IsTrue (is_int (column row 7))) rows
+serials_shown [] [] each = (refl, tt)
+serials_shown [] (y ∷ ys) each = absurd each
+serials_shown (x ∷ xs) [] each = absurd each
+serials_shown (x ∷ xs) (y ∷ ys) each =
+    let rest = serials_shown xs ys each.1 in (ap₂ ◌∷◌ each.0.0 rest.0, (each.0.1, rest.1))
 
 pub on_err : {T E : Type 0} (r : Result T E) (P : Type 0) (e : E) → r ≡ Err e → OnErr r P → P
 on_err (Ok x) P e is h = absurd cc

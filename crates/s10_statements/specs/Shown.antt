@@ -106,6 +106,14 @@ closed_from v = record { num = int_in (column v 0); arrival = int_in (column v 1
 abbrev pub serial_front : Row → Row
 serial_front v = map (column v) (range_with_len 0 (length serials_table.columns))
 
+-- SQL shows a row of calls so.
+abbrev pub ShowsCall : StoredCall → Row → Type 0
+ShowsCall call row = shown_call call ≡ row
+
+-- SQL shows a row of serials so, with its rowid after the columns, which is an integer.
+abbrev pub ShowsSerial : SerialRow → Row → Type 0
+ShowsSerial serial row = (shown_serial serial ≡ serial_front row) × IsTrue (is_int (column row 7))
+
 -- The columns of a stored row of head.
 abbrev pub head_columns : Row → Row
 head_columns r = columns_in head_table r

@@ -8,6 +8,7 @@ mod migrating;
 mod observer;
 mod reads;
 mod row_reading;
+mod streamed_row;
 mod streams;
 mod writes;
 

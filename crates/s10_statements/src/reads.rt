@@ -23,7 +23,7 @@ ghost use Rattle.s10_statements.specs.Statements.{LeavesTables, LeavesTablesWher
 
 use crate::observer::Observer;
 use crate::row_reading::rows_in;
-use crate::streams::{stream_calls, stream_serials};
+use crate::streams::stream_rows;
 use s10_rows::{CallRow, ClosedRow, HeadRow, RangeRow, SerialRow};
 use sqlite::types::ValueRef;
 use sqlite::{Alter, Connection, Error, Row, params};
@@ -96,11 +96,11 @@ pub fn all_calls<S: Alter, W: Observer>(
         → IfOk result (λ rows. IsLedgerSchema (state S.Store conn.old).now.schema
         → IsAscending (λ a b. int_cmp a.arrival b.arrival ≢ Ordering.Greater) rows.items) }
 {
-    stream_calls(
+    stream_rows(
         alloc,
         conn,
         "SELECT arrival, customer, number, day, reply FROM calls ORDER BY arrival",
-        &[],
+        "calls",
         observer,
     )
 }
@@ -184,10 +184,11 @@ pub fn all_serials<S: Alter, W: Observer>(
         → OnOk result (IsLedgerSchema (state S.Store conn.old).now.schema
         → AllByRecursion HasIntegerRowid ((state S.Store conn.old).now.trees 4)) }
 {
-    stream_serials(
+    stream_rows(
         alloc,
         conn,
         "SELECT pair, serial, arrival, day, customer, number, voided, rowid FROM serials ORDER BY pair, serial",
+        "serials",
         observer,
     )
 }

@@ -1,12 +1,11 @@
 //! Reads typed rows from the rows of a result.
 
-ghost use Rattle.std.specs.Prelude.{◌≡◌, length, IfOk, OnOk, IsTrue, map};
-ghost use Rattle.sqlite_value.specs.Order.{column};
-ghost use Rattle.sqlite_trees.specs.View.{is_int};
-ghost use Rattle.s10_statements.specs.Shown.{shown_head, shown_call, shown_range, shown_serial};
-ghost use Rattle.s10_statements.specs.Shown.{shown_closed, serial_front};
+ghost use Rattle.std.specs.Prelude.{◌≡◌, length, IfOk, map};
+ghost use Rattle.s10_statements.specs.Shown.{shown_head, shown_range, shown_serial, shown_closed};
+ghost use Rattle.s10_statements.specs.Shown.{serial_front, ShowsCall, ShowsSerial};
 
 use crate::from_row::FromRow;
+use crate::streamed_row::StreamedRow;
 use s10_rows::{CallRow, ClosedRow, HeadRow, RangeRow, SerialRow};
 use sqlite::{Error, Row};
 use std::alloc::Global;
@@ -38,16 +37,20 @@ impl FromRow for HeadRow {
     }
 }
 
-pub(crate) fn call_row_in(row: &Row) -> Result<CallRow, Error>
-    ensures { IfOk result (λ call. shown_call call ≡ row.now) }
-{
-    check_width(row, 5)?;
-    let arrival: i64 = row.get(0)?;
-    let customer: i64 = row.get(1)?;
-    let number: i64 = row.get(2)?;
-    let day: i64 = row.get(3)?;
-    let reply: Vec<u8> = row.get(4)?;
-    Ok(CallRow::new(arrival, customer, number, day, reply))
+impl StreamedRow for CallRow {
+    ghost is_shown_as = { ShowsCall };
+
+    fn read(row: &Row) -> Result<CallRow, Error>
+        ensures { IfOk result (λ call. ShowsCall call row.now) }
+    {
+        check_width(row, 5)?;
+        let arrival: i64 = row.get(0)?;
+        let customer: i64 = row.get(1)?;
+        let number: i64 = row.get(2)?;
+        let day: i64 = row.get(3)?;
+        let reply: Vec<u8> = row.get(4)?;
+        Ok(CallRow::new(arrival, customer, number, day, reply))
+    }
 }
 
 impl FromRow for RangeRow {
@@ -95,12 +98,15 @@ impl FromRow for SerialRow {
 }
 
 // Reads a row of `serials`, with its rowid after the columns.
-pub(crate) fn serial_with_rowid_in(row: &Row) -> Result<SerialRow, Error>
-    ensures columns { IfOk result (λ serial. shown_serial serial ≡ serial_front row.now) }
-    ensures numbered { OnOk result (IsTrue (is_int (column row.now 7))) }
-{
-    let _rowid: i64 = row.get(7)?;
-    serial_columns_in(row)
+impl StreamedRow for SerialRow {
+    ghost is_shown_as = { ShowsSerial };
+
+    fn read(row: &Row) -> Result<SerialRow, Error>
+        ensures { IfOk result (λ serial. ShowsSerial serial row.now) }
+    {
+        let _rowid: i64 = row.get(7)?;
+        serial_columns_in(row)
+    }
 }
 
 impl FromRow for ClosedRow {

@@ -2,7 +2,7 @@ use Rattle.std.proofs.Common.{rules, ◌≡◌, ◌∙◌, ◌∷◌, []}
 use Rattle.sqlite_value.specs.declared.value.Value.TheVariants.{Int, Blob}
 use Rattle.s10_statements.specs.Shown.{shown_call}
 use Rattle.s10_statements.proofs.RowLemmas.{columns_5}
-use Rattle.s10_statements.proofs.row_reading.call_row_in.Goals as goal
+use Rattle.s10_statements.proofs.row_reading.CallRowStreamedRow.read.Goals as goal
 
 pub returns : goal.returns
 returns c =

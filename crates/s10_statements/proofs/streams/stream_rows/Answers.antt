@@ -1,21 +1,21 @@
-use Rattle.std.proofs.Common.{◌≡◌, inl, List, Option, Some, None, map, refl, sym, ap, subst, ◌∙◌}
+use Rattle.std.proofs.Common.{◌≡◌, inl, Option, Some, None, refl, sym, subst, ◌∙◌}
+use Rattle.std.proofs.Common.{[]}
 use Rattle.sqlite_value.specs.Order.{Row}
-use Rattle.sqlite.specs.Values.{bound}
-use Rattle.s10_statements.specs.Shown.{shown_call}
 use Rattle.std.proofs.lemmas.Result.{err_from_is_err_and}
 use Rattle.sqlite.specs.Given.{Advances, row_if}
 use Rattle.s10_statements.proofs.RowByRow.{failed_leaves, begun_spares, begun, stepped, stopped}
-use Rattle.s10_statements.proofs.RowByRow.{ended, failed_moves, map_push, on_err, if_err}
-use Rattle.s10_statements.proofs.streams.stream_calls.Goals as goal
+use Rattle.s10_statements.proofs.RowByRow.{ended, failed_moves, zip_push, on_err, if_err}
+use Rattle.s10_statements.proofs.streams.stream_rows.Goals as goal
+use Rattle.std.specs.List.{AllZip}
 
 pub rows-init : goal.rows-init
 rows-init g c =
     let made = c.in_ok-shown.ensures in
     record {
       same_reference = refl;
-      so_far = begun g.S.Store c.args.sql.now (bound c.args.params.now) c.requires.plain _
+      so_far = begun g.S.Store c.args.sql.now [] c.requires.plain _
           c.args.conn.now c.in_ok-shown.shown.conn.now made.mode made.survives made.begun
-          (ap (map shown_call) c.new-calls.ensures.items);
+          (subst (λ xs. AllZip g.T.StreamedRow.is_shown_as xs []) (sym c.new-typed.ensures.items) tt);
     }
 
 pub rows-preserved : goal.rows-preserved
@@ -28,12 +28,12 @@ rows-preserved g c =
     record {
       same_reference = moved.same_reference ∙ c.rows.invariant.same_reference;
       so_far = stepped c.requires.plain c.rows.invariant.so_far now moved.mode moved.survives row
-          (λ (rows : List Row). map shown_call c.push.new.self.items ≡ rows) moved.same
+          (AllZip g.T.StreamedRow.is_shown_as c.push.new.self.items) moved.same
           (λ sure. subst (λ (r : Option Row). Advances g.S.Store c.rows.shown.conn.now now r)
           some (moved.ok sure))
-          (λ rows was. map_push shown_call c.rows.calls.items c.push.new.self.items
-          c.in_ok-call_row_in.field-0 rows row (c.in_ok-push.ensures.items) was
-          c.in_ok-call_row_in.ensures);
+          (λ rows was. zip_push g.T.StreamedRow.is_shown_as c.rows.typed.items
+          c.push.new.self.items c.in_ok-read.field-0 rows row c.in_ok-push.ensures.items was
+          c.in_ok-read.ensures);
     }
 
 pub returns-in_err-shown : goal.returns-in_err-shown
@@ -42,12 +42,12 @@ returns-in_err-shown g c =
     c.query.follows.holds-at-none in
     let err = (err_from_is_err_and c.from_residual.result c.from_residual.ensures.1).1 in
     record {
-      leaves = failed_leaves g.S.Store c.args.sql.now (bound c.args.params.now) c.requires.plain
+      leaves = failed_leaves g.S.Store c.args.sql.now [] c.requires.plain
           c.args.conn.now
           c.query.follows.lender-at-none refused.survives.clean refused.mode
           c.in_err-shown.field-0.0 (λ clean. if_err c.query.result _ c.in_err-shown.field-0.0
           c.in_err-shown.was (refused.err clean));
-      spares = begun_spares g.S.Store c.args.sql.now (bound c.args.params.now) c.requires.plain
+      spares = begun_spares g.S.Store c.args.sql.now [] c.requires.plain
           c.args.conn.now
           c.query.follows.lender-at-none refused.survives.clean refused.mode refused.survives;
       opened = λ clean. rw err tt;
@@ -69,16 +69,16 @@ returns-in_err-advance g c =
       rows = λ clean. rw err tt;
     })
 
-pub returns-in_err-call_row_in : goal.returns-in_err-call_row_in
-returns-in_err-call_row_in g c =
+pub returns-in_err-read : goal.returns-in_err-read
+returns-in_err-read g c =
     let moved = c.in_ok-advance.ensures in
     let it = stopped c.requires.plain c.rows.invariant.so_far c.advance.new.self.conn.now moved.mode
     moved.survives (λ sure. inl (moved.same sure)) in
-    let err = (err_from_is_err_and c.from_residual-in_err-call_row_in.result
-    c.from_residual-in_err-call_row_in.ensures.1).1 in
-    rw (c.conn-in_err-call_row_in-1.given.1 (sym (moved.same_reference ∙
+    let err = (err_from_is_err_and c.from_residual-in_err-read.result
+    c.from_residual-in_err-read.ensures.1).1 in
+    rw (c.conn-in_err-read-1.given.1 (sym (moved.same_reference ∙
     c.rows.invariant.same_reference
-    ∙ c.in_ok-shown.ensures.same_reference)) ∙ c.drop-shown-in_err-call_row_in.ensures) (record {
+    ∙ c.in_ok-shown.ensures.same_reference)) ∙ c.drop-shown-in_err-read.ensures) (record {
       leaves = it.0;
       spares = it.1;
       opened = λ clean. rw err tt;
