@@ -234,7 +234,8 @@ pub trait Book {
             → IfOk result (λ u. u ≡ usage_of (history self.old) range.now day
             (terms self.old).interval) };
 
-    /// Adds a call at the end of the history. A durable book has then committed all its calls.
+    /// Adds a call at the end of the history. A durable book has then committed all its calls. After
+    /// an error it has committed none that was pending.
     ///
     /// The call must be one that may follow: a new key, a day that is not before the book's, and
     /// the outcome of the rules. The limit must not be reached.
@@ -255,6 +256,8 @@ pub trait Book {
             → Grows (committed self.old) (committed self.new) }
         ensures committed { durable → honest self.new
             → OnOk result (committed self.new ≡ history self.new) }
+        ensures left { durable → honest self.new
+            → OnErr result (committed self.new ≡ committed self.old) }
         ensures opened { clean self.new → OnOk result (honest self.new) }
         ensures stop { FindsAfter honest clean may_find self.old self.new
             (IsPerhapsWith (history self.old) entry) };

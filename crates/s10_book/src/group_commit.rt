@@ -11,7 +11,12 @@ pub trait GroupCommit: Book {
     ghost use Rattle.s10_book.specs.BookFault.{CountsResult};
     ghost use Rattle.s10_book.specs.Book.{Grows, FindsAfter, IsPerhapsWith, Unchanged};
     ghost use Rattle.s10_book.specs.GroupCommit.{IsCommittedCall};
-    ghost use Rattle.std.specs.Prelude.{◌≡◌, ◌↔◌, ◌++◌, ◌∷◌, [], IsTrue, OnErr, OnOk};
+    ghost use Rattle.s10_history.specs.declared.entry.Entry.{Entry};
+    ghost use Rattle.s10_book.specs.declared.book_fault.BookFault.{BookFault};
+    ghost use Rattle.std.specs.Prelude.{◌≡◌, ◌↔◌, ◌++◌, ◌∷◌, [], ⊤, Result, IsTrue, OnErr, OnOk};
+
+    /// What an append does to the store beneath the book. Says nothing, unless a book defines it.
+    ghost appends: { Self → Self → Entry → Result ⊤ BookFault → Type 0 } = { λ _ _ _ _. ⊤ };
 
     /// Adds a call at the end of the history, as `keep` does. It need not be committed.
     ///
@@ -33,7 +38,8 @@ pub trait GroupCommit: Book {
             → Grows (Self.committed self.old) (Self.committed self.new) }
         ensures opened { Self.clean self.new → OnOk result (Self.honest self.new) }
         ensures stop { FindsAfter Self.honest Self.clean Self.may_find self.old self.new
-            (IsPerhapsWith (Self.history self.old) entry) };
+            (IsPerhapsWith (Self.history self.old) entry) }
+        ensures appends { Self.appends self.old self.new entry result };
 
     /// Commits all pending calls. After an error the committed calls of an honest book are the same
     /// as before.

@@ -1,6 +1,6 @@
 -- Defines what is always true of a book and its pending calls.
-use Rattle.std.specs.Prelude.{◌≡◌, ◌≤◌, ◌-◌, Bool, IsTrue, List, [], ◌∷◌, ◌++◌, length, map, take}
-use Rattle.std.specs.Prelude.{All}
+use Rattle.std.specs.Prelude.{◌≡◌, ◌≤◌, ◌<◌, ◌-◌, Bool, IsTrue, List, [], ◌∷◌, ◌++◌, length, map}
+use Rattle.std.specs.Prelude.{take, All, ⊤, Result, Err, OnOk}
 use Rattle.sqlite_trees.specs.declared.store.Store.{Ghosts}
 use Rattle.sqlite.specs.Effect.{Database}
 use Rattle.sqlite.specs.State.{HasCleanDisk}
@@ -9,6 +9,8 @@ use Rattle.s10_history.specs.declared.entry.Entry.{Entry}
 use Rattle.s10_history.specs.declared.settings.TheConstants.{MAX_LIMIT}
 use Rattle.s10_history.specs.Settings.{Terms}
 use Rattle.s10_history.specs.History.{day_of}
+use Rattle.s10_book.specs.declared.book_fault.BookFault.{BookFault}
+use Rattle.s10_book.specs.declared.book_fault.BookFault.TheVariants.{Store}
 use Rattle.s10_book.specs.Rules.{IsLegal, MayFollow}
 use Rattle.s10_index.specs.declared.call_index.CallIndex.{CallIndex}
 use Rattle.s10_index.specs.CallIndex.{Indexes}
@@ -19,7 +21,8 @@ use Rattle.s10_rows.specs.Tables.{Tables, tables_of}
 use Rattle.s10_statements.specs.Shown.{HasTables}
 use Rattle.s10_statements.specs.ConnectionState.{IsQuiescent, IsOpenIf}
 use Rattle.s10_ledger.specs.declared.sql_book.TheConstants.{MAX_PENDING}
-use Rattle.s10_ledger.specs.Ledger.{IsLedger, history_in}
+use Rattle.s10_ledger.specs.Ledger.{Ledger, IsLedger, IsHonest, IsOverCleanDisk, HasFailed}
+use Rattle.s10_ledger.specs.Ledger.{history_in}
 
 -- The calls of these writes.
 abbrev pub calls_of : List CallWrite → List Entry
@@ -67,3 +70,14 @@ pub record IsSound {S : Type 0} (g : Ghosts S) (conn : Held S) (t : Terms) (inde
       (day_of (committed_among ws index.entries.items))
   pub followed : HasCleanDisk (state g conn) → IsTrue (state g conn).is_open
       → IsFollowed (state g conn).now t index ws
+
+-- What an append does while fewer than `MAX_PENDING` calls are pending: if it succeeds, the database
+-- is unchanged and the call is the last pending one. An honest book over a clean disk returns `Store`
+-- only if the disk failed or refused.
+pub record Appends {S : Type 0} (g : Ghosts S) (old new : Ledger S) (e : Entry)
+    (result : Result ⊤ BookFault) : Type 0 where
+  pub uncommitted : IsHonest g new → length old.pending < MAX_PENDING
+      → OnOk result (((state g new.conn).now ≡ (state g old.conn).now)
+      × (new.pending ≡ old.pending ++ e ∷ []))
+  pub store : IsHonest g old → IsOverCleanDisk g new → length old.pending < MAX_PENDING
+      → result ≡ Err Store → HasFailed g old.conn new.conn

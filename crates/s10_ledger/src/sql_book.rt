@@ -513,38 +513,13 @@ impl<S: Alter> SqlBook<S> {
 }
 
 impl<S: Alter> GroupCommit for SqlBook<S> {
-    ghost use Rattle.std.specs.Prelude.{◌++◌, ◌∷◌, ◌<◌, length, OnErr, OnOk};
-    ghost use Rattle.s10_book.specs.Rules.{MayFollow};
-    ghost use Rattle.s10_book.specs.Book.{Grows, FindsAfter, IsPerhapsWith};
-    ghost use Rattle.s10_ledger.specs.Ledger.{history_of, committed_of, IsOverCleanDisk, MayFind};
-    ghost use Rattle.s10_ledger.specs.Ledger.{HasFailed};
+    ghost use Rattle.s10_ledger.specs.Pending.{Appends};
+
+    ghost appends = { Appends S.Store };
 
     /// Appends the call to the pending ones, in the process. If `MAX_PENDING` calls are pending,
     /// commits these first. If fewer are pending, the database is unchanged.
-    fn append(&mut self, entry: Entry) -> Result<(), BookFault>
-        requires { IsHonest S.Store self.old → MayFollow (history_of S.Store self.old)
-            self.old.terms entry }
-        ensures faults { CountsResult result self.old.faults self.new.faults }
-        ensures was_honest { IsHonest S.Store self.new → IsHonest S.Store self.old }
-        ensures same_terms { IsHonest S.Store self.new → self.new.terms ≡ self.old.terms }
-        ensures ok { IsHonest S.Store self.new
-            → OnOk result (history_of S.Store self.new ≡ history_of S.Store self.old ++ entry
-            ∷ []) }
-        ensures err { IsHonest S.Store self.new
-            → OnErr result (history_of S.Store self.new ≡ history_of S.Store self.old) }
-        ensures stays_committed { IsHonest S.Store self.new
-            → Grows (committed_of S.Store self.old) (committed_of S.Store self.new) }
-        ensures opened { IsOverCleanDisk S.Store self.new → OnOk result (IsHonest S.Store
-            self.new) }
-        ensures stop { FindsAfter (IsHonest S.Store) (IsOverCleanDisk S.Store) (MayFind S.Store)
-            self.old self.new (IsPerhapsWith (history_of S.Store self.old) entry) }
-        ensures uncommitted { IsHonest S.Store self.new → length self.old.pending < MAX_PENDING
-            → OnOk result (((state S.Store self.new.conn).now ≡ (state S.Store self.old.conn).now)
-            × (self.new.pending ≡ self.old.pending ++ entry ∷ [])) }
-        ensures store { IsHonest S.Store self.old → IsOverCleanDisk S.Store self.new
-            → length self.old.pending < MAX_PENDING → result ≡ Err BookFault.Store
-            → HasFailed S.Store self.old.conn self.new.conn }
-    {
+    fn append(&mut self, entry: Entry) -> Result<(), BookFault> {
         if let Err(fault) = self.make_room() {
             return Err(fault);
         }
@@ -563,9 +538,7 @@ impl<S: Alter> GroupCommit for SqlBook<S> {
 }
 
 impl<S: Alter> Book for SqlBook<S> {
-    ghost use Rattle.std.specs.Prelude.{⊤, refl, ◌++◌, ◌∷◌, OnErr, OnOk};
-    ghost use Rattle.s10_book.specs.Rules.{MayFollow};
-    ghost use Rattle.s10_book.specs.Book.{Grows, FindsAfter, IsPerhapsWith};
+    ghost use Rattle.std.specs.Prelude.{⊤, refl};
     ghost use Rattle.s10_ledger.specs.Ledger.{history_of, committed_of};
     ghost use Rattle.s10_ledger.specs.Ledger.{IsOverCleanDisk, MayFind};
     ghost use Rattle.s10_ledger.specs.Found.{finds_committed};
@@ -667,28 +640,7 @@ impl<S: Alter> Book for SqlBook<S> {
 
     /// Commits the call, in one transaction with all pending calls before it. On an error the
     /// history and the pending calls are unchanged, and an honest book has committed none of them.
-    fn keep(&mut self, entry: Entry) -> Result<(), BookFault>
-        requires { IsHonest S.Store self.old → MayFollow (history_of S.Store self.old)
-            self.old.terms entry }
-        ensures faults { CountsResult result self.old.faults self.new.faults }
-        ensures was_honest { IsHonest S.Store self.new → IsHonest S.Store self.old }
-        ensures same_terms { IsHonest S.Store self.new → self.new.terms ≡ self.old.terms }
-        ensures ok { IsHonest S.Store self.new
-            → OnOk result (history_of S.Store self.new ≡ history_of S.Store self.old ++ entry
-            ∷ []) }
-        ensures err { IsHonest S.Store self.new
-            → OnErr result (history_of S.Store self.new ≡ history_of S.Store self.old) }
-        ensures stays_committed { IsHonest S.Store self.new
-            → Grows (committed_of S.Store self.old) (committed_of S.Store self.new) }
-        ensures committed { IsHonest S.Store self.new
-            → OnOk result (committed_of S.Store self.new ≡ history_of S.Store self.new) }
-        ensures opened { IsOverCleanDisk S.Store self.new → OnOk result (IsHonest S.Store
-            self.new) }
-        ensures stop { FindsAfter (IsHonest S.Store) (IsOverCleanDisk S.Store) (MayFind S.Store)
-            self.old self.new (IsPerhapsWith (history_of S.Store self.old) entry) }
-        ensures left { IsHonest S.Store self.new
-            → OnErr result (committed_of S.Store self.new ≡ committed_of S.Store self.old) }
-    {
+    fn keep(&mut self, entry: Entry) -> Result<(), BookFault> {
         match self.ask_again() {
             Ok(()) => self.keep_with_pending(entry),
             Err(fault) => Err(fault),

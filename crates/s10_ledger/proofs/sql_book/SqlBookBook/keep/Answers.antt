@@ -12,10 +12,10 @@ still_left (Ok x) new mid old left same = tt
 still_left (Err x) new mid old left same = left ∙ same
 
 pub returns-in-Err-clause-left : goal.returns-in-Err-clause-left
-returns-in-Err-clause-left g c = λ h. ap history_in (c.in-Err.ensures.same h)
+returns-in-Err-clause-left g c = λ durable h. ap history_in (c.in-Err.ensures.same h)
 
 pub returns-in-Ok-clause-left : goal.returns-in-Ok-clause-left
-returns-in-Ok-clause-left g c = λ h. still_left c.keep_with_pending.result
+returns-in-Ok-clause-left g c = λ durable h. still_left c.keep_with_pending.result
     (committed_of g.S.Store c.keep_with_pending.new.self)
     (committed_of g.S.Store c.ask_again.new.self) (committed_of g.S.Store c.args.self.now)
     (c.keep_with_pending.ensures.left h)

@@ -50,9 +50,6 @@ module _ {S : Type 0} (g : Ghosts S) (old mid new : Ledger S) (e : Entry)
   )
   held_alone (Err x) held uncommitted = tt
 
-pub returns-in-Err-clause-uncommitted : goal.returns-in-Err-clause-uncommitted
-returns-in-Err-clause-uncommitted g c = λ honest few. tt
-
 pub returns-in-Err-clause-faults : goal.returns-in-Err-clause-faults
 returns-in-Err-clause-faults g c = c.in-Err.ensures.faults
 
@@ -121,20 +118,22 @@ returns-clause-err g c = λ honest.
     c.append_call.ensures.same_conn c.append_call.result c.append_call.ensures.err
     (c.in_default.ensures.unchanged.same_history (c.append_call.ensures.was_honest honest))
 
-pub returns-clause-uncommitted : goal.returns-clause-uncommitted
-returns-clause-uncommitted g c = λ honest few.
-    held_alone g.S.Store c.args.self.now c.make_room.new.self c.append_call.new.self c.args.entry
-    c.append_call.ensures.same_conn c.append_call.result c.append_call.ensures.ok
-    (c.in_default.ensures.uncommitted (c.append_call.ensures.was_honest honest) few)
+pub returns-in-Err-clause-appends : goal.returns-in-Err-clause-appends
+returns-in-Err-clause-appends g c = record {
+  uncommitted = λ honest few. tt;
+  store = λ honest clean few is. c.make_room.ensures.store honest clean few (c.in-Err.is ∙ is);
+}
 
-pub returns-in-Err-clause-store : goal.returns-in-Err-clause-store
-returns-in-Err-clause-store g c = λ honest clean few is.
-    c.make_room.ensures.store honest clean few (c.in-Err.is ∙ is)
-
-pub returns-clause-store : goal.returns-clause-store
-returns-clause-store g c = λ honest clean few is.
-    let mid = c.make_room.new.self in
-    let was : IsOverCleanDisk g.S.Store mid =
-    subst (λ h. HasCleanDisk (state g.S.Store h)) c.append_call.ensures.same_conn clean in
-    absurd (not_store c.append_call.result
-    (c.append_call.ensures.memory (c.in_default.ensures.opened was)) is)
+pub returns-clause-appends : goal.returns-clause-appends
+returns-clause-appends g c = record {
+  uncommitted = λ honest few.
+      held_alone g.S.Store c.args.self.now c.make_room.new.self c.append_call.new.self
+      c.args.entry c.append_call.ensures.same_conn c.append_call.result c.append_call.ensures.ok
+      (c.in_default.ensures.uncommitted (c.append_call.ensures.was_honest honest) few);
+  store = λ honest clean few is.
+      let mid = c.make_room.new.self in
+      let was : IsOverCleanDisk g.S.Store mid =
+      subst (λ h. HasCleanDisk (state g.S.Store h)) c.append_call.ensures.same_conn clean in
+      absurd (not_store c.append_call.result
+      (c.append_call.ensures.memory (c.in_default.ensures.opened was)) is);
+}
