@@ -4,3 +4,4 @@ pub mod Book
 pub mod Promises
 pub mod Once
 pub mod GroupCommit
+pub mod Reading

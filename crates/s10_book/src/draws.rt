@@ -6,6 +6,7 @@ ghost use Rattle.s10_history.specs.Issues.{free_pick_of};
 ghost use Rattle.s10_book.specs.Rules.{successive_draws as successive_draws_of};
 ghost use Rattle.s10_book.specs.BookFault.{CountsResult};
 ghost use Rattle.s10_book.specs.Book.{Unchanged};
+ghost use Rattle.s10_book.specs.Reading.{Reads};
 
 use crate::book::Book;
 use crate::book_fault::BookFault;
@@ -24,9 +25,7 @@ fn free_pick<B: Book>(
     interval: u32,
 ) -> Result<Option<Id>, BookFault>
     requires { B.honest book.old → Contains (ranges_of (B.history book.old)) range.now }
-    ensures faults { CountsResult result (B.faults book.old) (B.faults book.new) }
-    ensures unchanged { Unchanged B.history B.committed B.terms B.honest B.clean B.may_find book.old
-        book.new }
+    ensures reads { Reads B.Book book.old book.new result }
     ensures answer { B.honest book.new
         → IfOk result (λ x. x ≡ free_pick_of (B.history book.old) range.now issued day interval) }
 {

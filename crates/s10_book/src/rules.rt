@@ -10,6 +10,7 @@ ghost use Rattle.s10_wire.specs.Kind.{fits};
 ghost use Rattle.s10_history.specs.Issues.{last_issue_of};
 ghost use Rattle.s10_book.specs.BookFault.{CountsResult};
 ghost use Rattle.s10_book.specs.Book.{Unchanged};
+ghost use Rattle.s10_book.specs.Reading.{Reads};
 
 use crate::book::Book;
 use crate::book_fault::BookFault;
@@ -27,9 +28,7 @@ fn decide_draw<B: Book>(
     country: Country,
     day: u32,
 ) -> Result<Outcome, BookFault>
-    ensures faults { CountsResult result (B.faults book.old) (B.faults book.new) }
-    ensures unchanged { Unchanged B.history B.committed B.terms B.honest B.clean B.may_find book.old
-        book.new }
+    ensures reads { Reads B.Book book.old book.new result }
     ensures answer { B.honest book.new
         → IfOk result (λ o. o ≡ draw_answer (B.history book.old) customer service country day
         (B.terms book.old).interval) }
@@ -66,9 +65,7 @@ fn decide_draw_many<B: Book>(
     count: Count,
     day: u32,
 ) -> Result<Outcome, BookFault>
-    ensures faults { CountsResult result (B.faults book.old) (B.faults book.new) }
-    ensures unchanged { Unchanged B.history B.committed B.terms B.honest B.clean B.may_find book.old
-        book.new }
+    ensures reads { Reads B.Book book.old book.new result }
     ensures answer { B.honest book.new
         → IfOk result (λ o. o ≡ draw_many_answer (B.history book.old) customer service country count
         day (B.terms book.old).interval) }
@@ -92,9 +89,7 @@ fn decide_draw_many<B: Book>(
 // Returns whether the identifier lies in one of the customer's ranges. No two ranges have an
 // identifier in common, so the one that is found decides.
 fn owns<B: Book>(book: &mut B, customer: u32, id: &Id) -> Result<bool, BookFault>
-    ensures faults { CountsResult result (B.faults book.old) (B.faults book.new) }
-    ensures unchanged { Unchanged B.history B.committed B.terms B.honest B.clean B.may_find book.old
-        book.new }
+    ensures reads { Reads B.Book book.old book.new result }
     ensures answer { B.honest book.new
         → IfOk result (λ b. b ≡ list_any (is_own customer id.now)
         (ranges_of (B.history book.old))) }
@@ -107,9 +102,7 @@ fn owns<B: Book>(book: &mut B, customer: u32, id: &Id) -> Result<bool, BookFault
 }
 
 fn decide_void<B: Book>(book: &mut B, customer: u32, id: &Id) -> Result<Outcome, BookFault>
-    ensures faults { CountsResult result (B.faults book.old) (B.faults book.new) }
-    ensures unchanged { Unchanged B.history B.committed B.terms B.honest B.clean B.may_find book.old
-        book.new }
+    ensures reads { Reads B.Book book.old book.new result }
     ensures answer { B.honest book.new
         → IfOk result (λ o. o ≡ void_answer (B.history book.old) customer id.now) }
     ensures fits { IfOk result (λ o. IsTrue (fits (Body.Void id.now) o)) }
@@ -131,9 +124,7 @@ fn decide_void<B: Book>(book: &mut B, customer: u32, id: &Id) -> Result<Outcome,
 
 // Returns the status of an identifier that lies in a range.
 fn issue_status<B: Book>(book: &mut B, id: &Id) -> Result<Status, BookFault>
-    ensures faults { CountsResult result (B.faults book.old) (B.faults book.new) }
-    ensures unchanged { Unchanged B.history B.committed B.terms B.honest B.clean B.may_find book.old
-        book.new }
+    ensures reads { Reads B.Book book.old book.new result }
     ensures answer { B.honest book.new
         → IfOk result (λ s. s ≡ status_of_issue (last_issue_of (B.history book.old) id.now)) }
 {
@@ -152,9 +143,7 @@ fn issue_status<B: Book>(book: &mut B, id: &Id) -> Result<Status, BookFault>
 // Returns the number of the next range, by binary search: range numbers have no gap, and are at
 // most the number of calls.
 fn next_number<B: Book>(book: &mut B) -> Result<u32, BookFault>
-    ensures faults { CountsResult result (B.faults book.old) (B.faults book.new) }
-    ensures unchanged { Unchanged B.history B.committed B.terms B.honest B.clean B.may_find book.old
-        book.new }
+    ensures reads { Reads B.Book book.old book.new result }
     ensures answer { B.honest book.new
         → IfOk result (λ n. n ≡ length (ranges_of (B.history book.old)) + 1) }
 {
@@ -180,9 +169,7 @@ fn decide_grant<B: Book>(
     first: Serial,
     last: Serial,
 ) -> Result<Outcome, BookFault>
-    ensures faults { CountsResult result (B.faults book.old) (B.faults book.new) }
-    ensures unchanged { Unchanged B.history B.committed B.terms B.honest B.clean B.may_find book.old
-        book.new }
+    ensures reads { Reads B.Book book.old book.new result }
     ensures answer { B.honest book.new
         → IfOk result (λ o. o ≡ grant_answer (B.history book.old) customer holder service country
         first last) }
@@ -210,9 +197,7 @@ fn decide_grant<B: Book>(
 
 // Returns the status of an identifier for the post, which may ask for one that lies in no range.
 fn known_status<B: Book>(book: &mut B, id: &Id) -> Result<Status, BookFault>
-    ensures faults { CountsResult result (B.faults book.old) (B.faults book.new) }
-    ensures unchanged { Unchanged B.history B.committed B.terms B.honest B.clean B.may_find book.old
-        book.new }
+    ensures reads { Reads B.Book book.old book.new result }
     ensures answer { B.honest book.new
         → IfOk result (λ s. s ≡ status_of (B.history book.old) id.now) }
 {
@@ -225,9 +210,7 @@ fn known_status<B: Book>(book: &mut B, id: &Id) -> Result<Status, BookFault>
 }
 
 fn decide_query<B: Book>(book: &mut B, customer: u32, id: &Id) -> Result<Outcome, BookFault>
-    ensures faults { CountsResult result (B.faults book.old) (B.faults book.new) }
-    ensures unchanged { Unchanged B.history B.committed B.terms B.honest B.clean B.may_find book.old
-        book.new }
+    ensures reads { Reads B.Book book.old book.new result }
     ensures answer { B.honest book.new
         → IfOk result (λ o. o ≡ query_answer (B.history book.old) customer id.now) }
     ensures fits { IfOk result (λ o. IsTrue (fits (Body.Query id.now) o)) }
@@ -244,9 +227,7 @@ fn decide_query<B: Book>(book: &mut B, customer: u32, id: &Id) -> Result<Outcome
 }
 
 fn decide_withdraw<B: Book>(book: &mut B, sender: u32, num: u32) -> Result<Outcome, BookFault>
-    ensures faults { CountsResult result (B.faults book.old) (B.faults book.new) }
-    ensures unchanged { Unchanged B.history B.committed B.terms B.honest B.clean B.may_find book.old
-        book.new }
+    ensures reads { Reads B.Book book.old book.new result }
     ensures answer { B.honest book.new
         → IfOk result (λ o. o ≡ withdraw_answer (B.history book.old) sender num) }
     ensures fits { IfOk result (λ o. IsTrue (fits (Body.Withdraw num) o)) }

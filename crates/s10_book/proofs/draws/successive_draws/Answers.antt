@@ -59,13 +59,13 @@ loop-held-preserved-in-Some-2 g c =
     let one : length c.push.new.self ≡ length c.loop-held.picks + 1 = ap length c.push.ensures
     ∙ length-append c.loop-held.picks (c.in-Some-2.id ∷ []) in
     record {
-      faults = c.in_ok-id.ensures.faults ∙ c.loop-held.invariant.faults;
-      unchanged = Unchanged-trans c.loop-held.invariant.unchanged c.free_pick.ensures.unchanged;
-      interval = λ h. c.loop-held.invariant.interval (c.free_pick.ensures.unchanged.was_honest h);
+      faults = c.in_ok-id.ensures.reads.faults ∙ c.loop-held.invariant.faults;
+      unchanged = Unchanged-trans c.loop-held.invariant.unchanged c.free_pick.ensures.reads.unchanged;
+      interval = λ h. c.loop-held.invariant.interval (c.free_pick.ensures.reads.unchanged.was_honest h);
       few = omega (arith, one, few);
       fewer = omega (arith, one, c.loop-held.invariant.fewer);
       walk = λ h.
-          let h0 = c.free_pick.ensures.unchanged.was_honest h in
+          let h0 = c.free_pick.ensures.reads.unchanged.was_honest h in
           let same : g.B.Book.history c.loop-held.book ≡ first =
           c.loop-held.invariant.unchanged.same_history h0 in
           let legal = g.met.B.Book.legal c.args.book.now (c.loop-held.invariant.unchanged.was_honest
@@ -97,7 +97,7 @@ returns-in_default-3-clause-answer g c = λ h.
     let p = is_open first c.args.customer c.args.service c.args.country in
     let r = c.loop-held.range in
     let h1 = c.next_range-in-loop-held.ensures.unchanged.was_honest h in
-    let h0 = c.free_pick.ensures.unchanged.was_honest h1 in
+    let h0 = c.free_pick.ensures.reads.unchanged.was_honest h1 in
     let same : g.B.Book.history c.loop-held.book ≡ first =
     c.loop-held.invariant.unchanged.same_history h0 in
     let legal = g.met.B.Book.legal c.args.book.now (c.loop-held.invariant.unchanged.was_honest
@@ -119,7 +119,7 @@ returns-in_default-3-clause-answer g c = λ h.
     let none : find (above (is_open first c.args.customer c.args.service c.args.country)
     c.loop-held.range.num) (ranges_of first) ≡ None =
     sym (ap (λ l. find (above (is_open l c.args.customer c.args.service c.args.country)
-    c.loop-held.range.num) (ranges_of l)) (c.free_pick.ensures.unchanged.same_history h1
+    c.loop-held.range.num) (ranges_of l)) (c.free_pick.ensures.reads.unchanged.same_history h1
     ∙ same)) ∙ sym n ∙ c.in_default-3.is in
     walked_out first t c.args.customer c.args.service c.args.country c.args.day
     c.interval-interval.result c.value-wanted.result r c.loop-held.issued c.loop-held.picks
@@ -139,18 +139,18 @@ loop-held-preserved g c =
     let p = is_open first c.args.customer c.args.service c.args.country in
     let r = c.loop-held.range in
     record {
-      faults = c.in_ok-next.ensures.faults ∙ c.in_ok-id.ensures.faults
+      faults = c.in_ok-next.ensures.faults ∙ c.in_ok-id.ensures.reads.faults
           ∙ c.loop-held.invariant.faults;
       unchanged = Unchanged-trans c.loop-held.invariant.unchanged
-          (Unchanged-trans c.free_pick.ensures.unchanged
+          (Unchanged-trans c.free_pick.ensures.reads.unchanged
           c.next_range-in-loop-held.ensures.unchanged);
-      interval = λ h. c.loop-held.invariant.interval (c.free_pick.ensures.unchanged.was_honest
+      interval = λ h. c.loop-held.invariant.interval (c.free_pick.ensures.reads.unchanged.was_honest
           (c.next_range-in-loop-held.ensures.unchanged.was_honest h));
       few = c.loop-held.invariant.few;
       fewer = omega arith;
       walk = λ h.
           let h1 = c.next_range-in-loop-held.ensures.unchanged.was_honest h in
-          let h0 = c.free_pick.ensures.unchanged.was_honest h1 in
+          let h0 = c.free_pick.ensures.reads.unchanged.was_honest h1 in
           let same : g.B.Book.history c.loop-held.book ≡ first =
           c.loop-held.invariant.unchanged.same_history h0 in
           let legal = g.met.B.Book.legal c.args.book.now (c.loop-held.invariant.unchanged.was_honest
@@ -171,7 +171,7 @@ loop-held-preserved g c =
           let found : find (above (is_open first c.args.customer c.args.service c.args.country)
           c.loop-held.range.num) (ranges_of first) ≡ Some c.in-Some-3.next =
           sym (ap (λ l. find (above (is_open l c.args.customer c.args.service c.args.country)
-          c.loop-held.range.num) (ranges_of l)) (c.free_pick.ensures.unchanged.same_history h1
+          c.loop-held.range.num) (ranges_of l)) (c.free_pick.ensures.reads.unchanged.same_history h1
           ∙ same)) ∙ sym n ∙ c.in-Some-3.is in
           at_next (ranges_of first) p (drawn_on c.args.day) c.args.day c.interval-interval.result
           (issues_of first) c.value-wanted.result r c.loop-held.issued c.loop-held.picks
@@ -227,7 +227,7 @@ free_pick-requires g c = λ h. rw (c.loop-held.invariant.unchanged.same_history 
 
 pub returns-in_err-id-clause-unchanged : goal.returns-in_err-id-clause-unchanged
 returns-in_err-id-clause-unchanged g c = Unchanged-trans c.loop-held.invariant.unchanged
-    c.free_pick.ensures.unchanged
+    c.free_pick.ensures.reads.unchanged
 
 pub returns-in_err-id-clause-answer : goal.returns-in_err-id-clause-answer
 returns-in_err-id-clause-answer g c = λ h. untold _ _ c.from_residual-in_err-id.result
@@ -239,7 +239,7 @@ returns-in_err-id-clause-all g c = untold _ _ c.from_residual-in_err-id.result
 
 pub returns-in_err-next-clause-unchanged : goal.returns-in_err-next-clause-unchanged
 returns-in_err-next-clause-unchanged g c = Unchanged-trans c.loop-held.invariant.unchanged
-    (Unchanged-trans c.free_pick.ensures.unchanged c.next_range-in-loop-held.ensures.unchanged)
+    (Unchanged-trans c.free_pick.ensures.reads.unchanged c.next_range-in-loop-held.ensures.unchanged)
 
 pub returns-in_err-next-clause-answer : goal.returns-in_err-next-clause-answer
 returns-in_err-next-clause-answer g c = λ h. untold _ _ c.from_residual-in_err-next.result
@@ -250,12 +250,12 @@ returns-in_err-next-clause-all g c = untold _ _ c.from_residual-in_err-next.resu
     c.from_residual-in_err-next.ensures.1
 
 pub returns-in_default-3-clause-faults : goal.returns-in_default-3-clause-faults
-returns-in_default-3-clause-faults g c = c.in_ok-next.ensures.faults ∙ c.in_ok-id.ensures.faults
+returns-in_default-3-clause-faults g c = c.in_ok-next.ensures.faults ∙ c.in_ok-id.ensures.reads.faults
     ∙ c.loop-held.invariant.faults
 
 pub returns-in_default-3-clause-unchanged : goal.returns-in_default-3-clause-unchanged
 returns-in_default-3-clause-unchanged g c = Unchanged-trans c.loop-held.invariant.unchanged
-    (Unchanged-trans c.free_pick.ensures.unchanged c.next_range-in-loop-held.ensures.unchanged)
+    (Unchanged-trans c.free_pick.ensures.reads.unchanged c.next_range-in-loop-held.ensures.unchanged)
 
 pub returns-clause-faults : goal.returns-clause-faults
 returns-clause-faults g c = c.loop-held.invariant.faults

@@ -24,7 +24,7 @@ returns-then-is_some-clause-answer g c = λ h.
 
 pub returns-clause-answer : goal.returns-clause-answer
 returns-clause-answer g c = λ h.
-    let h1 = c.next_number.ensures.unchanged.was_honest h in
+    let h1 = c.next_number.ensures.reads.unchanged.was_honest h in
     let order : c.args.first ≤ c.args.last = omega (
       arith,
       c.if-value.false,

@@ -13,11 +13,11 @@ returns-then-customer-eq0-clause-answer g c =
 
 pub returns-clause-answer : goal.returns-clause-answer
 returns-clause-answer g c = λ h.
-    let h1 = c.in_ok-status-2.ensures.unchanged.was_honest h in
+    let h1 = c.in_ok-status-2.ensures.reads.unchanged.was_honest h in
     let own : list_any (is_own c.args.customer c.args.id.now)
     (ranges_of (g.B.Book.history c.args.book.now)) ≡ true =
     sym (c.in_ok-owns.ensures.answer h1) ∙ c.if-not-branch.false in
     ap (λ s. Told s) (c.in_ok-status-2.ensures.answer h
     ∙ ap (λ l. status_of_issue (last_issue_of l c.args.id.now))
-    (c.in_ok-owns.ensures.unchanged.same_history h1))
+    (c.in_ok-owns.ensures.reads.unchanged.same_history h1))
     ∙ sym (own_query (g.B.Book.history c.args.book.now) c.args.customer c.args.id.now own)

@@ -16,7 +16,7 @@ returns-then-is_none-clause-answer g c = λ h.
 
 pub returns-clause-answer : goal.returns-clause-answer
 returns-clause-answer g c = λ h.
-    let h1 = c.issue_status.ensures.unchanged.was_honest h in
+    let h1 = c.issue_status.ensures.reads.unchanged.was_honest h in
     let known : status_of (g.B.Book.history c.args.book.now) c.args.id.now
     ≡ status_of_issue (last_issue_of (g.B.Book.history c.args.book.now) c.args.id.now) =
     status_at (g.B.Book.history c.args.book.now) c.args.id.now true
