@@ -76,8 +76,8 @@ pub(crate) fn commit_calls<S: Alter>(
     }
 }
 
-// Prepares the index for the call, whose calls are unchanged, and returns what the call writes after
-// those of the index. `Store` if the limit is reached, `Memory` if out of memory.
+// Prepares the index, whose calls are unchanged, for the call, and returns what the call writes after
+// them. `Store` if the limit is reached, `Memory` if out of memory.
 fn prepare_call(
     alloc: Global,
     index: &mut CallIndex,
