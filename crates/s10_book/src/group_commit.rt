@@ -2,6 +2,10 @@ use crate::book::Book;
 use crate::book_fault::BookFault;
 use s10_history::Entry;
 
+/// The greatest number of calls that are committed together: of the datagrams in a batch, and of
+/// the calls that are pending.
+pub const MAX_BATCH: u32 = 64;
+
 /// A book that may append calls first and commit them later, several at once.
 ///
 /// A pending call is in the history but is lost if the process dies. A committed call is durable. A

@@ -19,7 +19,7 @@ pub use book::Book;
 pub use book_fault::BookFault;
 pub use draws::successive_draws;
 pub use faults::Faults;
-pub use group_commit::GroupCommit;
+pub use group_commit::{GroupCommit, MAX_BATCH};
 pub use last_failure::LastFailure;
 pub use laws::{
     few_free, free_picks, legal_histories, never_twice, overlaps_are_common_serials,

@@ -14,16 +14,13 @@ use crate::failure_log::FailureLog;
 use crate::failures::fail_by_clock;
 use crate::job_status::JobStatus;
 use crate::turn_line::write_turn;
-use s10_book::{GroupCommit, LastFailure};
+use s10_book::{GroupCommit, LastFailure, MAX_BATCH};
 use s10_ends::{Server, Turn, serve_batch, serve_batch_of_one};
 use s10_lines::WriteFault;
 use s10_link::Link;
 use std::alloc::Global;
 use std::io::Write;
 use std::time::Clock;
-
-/// The maximum number of datagrams in one batch.
-const MAX_BATCH: u32 = 64;
 
 /// Serves `count` turns in batches of up to 64 datagrams, and prints one line for each turn.
 ///

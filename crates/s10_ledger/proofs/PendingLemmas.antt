@@ -37,7 +37,6 @@ use Rattle.s10_rows.specs.Tables.{Tables, tables_of}
 use Rattle.s10_statements.specs.ConnectionState.{IsQuiescent, IsOpenIf, StaysUnclean}
 use Rattle.s10_statements.specs.Shown.{HasTables, StandsFor}
 use Rattle.s10_statements.specs.Statements.{LeavesTables}
-use Rattle.s10_ledger.specs.declared.sql_book.TheConstants.{MAX_PENDING}
 use Rattle.s10_ledger.specs.Ledger.{Ledger, IsLedger, Holds, IsHonest, HoldsCalls, history_in}
 use Rattle.s10_ledger.specs.Ledger.{history_of, committed_of}
 use Rattle.s10_ledger.specs.Found.{ledger_holds}
@@ -375,7 +374,7 @@ written_calls index ws now e (Err x) written = tt
 module _ {S : Type 0} (g : Ghosts S) (conn : Held S) (t : Terms) (index after : CallIndex)
     (ws now : List CallWrite) (e : Entry) (answered : Bool)
     (sound : IsSound g conn t index ws answered)
-    (room : length ws < MAX_PENDING) (follows : HasCleanDisk (state g conn)
+    (room : length ws < 64) (follows : HasCleanDisk (state g conn)
     → IsTrue (state g conn).is_open → MayFollow (history_in (state g conn).now ++ calls_of ws) t
     e)
     (few : length index.entries.items ≤ MAX_LIMIT → length after.entries.items ≤ MAX_LIMIT) where

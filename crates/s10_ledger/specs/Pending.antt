@@ -20,7 +20,6 @@ use Rattle.s10_rows.specs.Selected.{IsCall}
 use Rattle.s10_rows.specs.Tables.{Tables, tables_of}
 use Rattle.s10_statements.specs.Shown.{HasTables}
 use Rattle.s10_statements.specs.ConnectionState.{IsQuiescent, IsOpenIf}
-use Rattle.s10_ledger.specs.declared.sql_book.TheConstants.{MAX_PENDING}
 use Rattle.s10_ledger.specs.Ledger.{Ledger, IsLedger, IsHonest, IsOverCleanDisk, HasFailed}
 use Rattle.s10_ledger.specs.Ledger.{history_in}
 
@@ -62,7 +61,7 @@ pub record IsFollowed (db : Database) (t : Terms) (index : CallIndex) (ws : List
 pub record IsSound {S : Type 0} (g : Ghosts S) (conn : Held S) (t : Terms) (index : CallIndex)
     (ws : List CallWrite) (answered : Bool) : Type 0 where
   pub few : length index.entries.items ≤ MAX_LIMIT
-  pub few_pending : length ws ≤ MAX_PENDING
+  pub few_pending : length ws ≤ 64
   pub settled : IsQuiescent g conn
   pub opened : IsOpenIf g conn answered
   pub ledger : HasCleanDisk (state g conn) → IsTrue (state g conn).is_open
@@ -71,13 +70,13 @@ pub record IsSound {S : Type 0} (g : Ghosts S) (conn : Held S) (t : Terms) (inde
   pub followed : HasCleanDisk (state g conn) → IsTrue (state g conn).is_open
       → IsFollowed (state g conn).now t index ws
 
--- What an append does while fewer than `MAX_PENDING` calls are pending: if it succeeds, the database
+-- What an append does while fewer than 64 calls are pending: if it succeeds, the database
 -- is unchanged and the call is the last pending one. An honest book over a clean disk returns `Store`
 -- only if the disk failed or refused.
 pub record Appends {S : Type 0} (g : Ghosts S) (old new : Ledger S) (e : Entry)
     (result : Result ⊤ BookFault) : Type 0 where
-  pub uncommitted : IsHonest g new → length old.pending < MAX_PENDING
+  pub uncommitted : IsHonest g new → length old.pending < 64
       → OnOk result (((state g new.conn).now ≡ (state g old.conn).now)
       × (new.pending ≡ old.pending ++ e ∷ []))
-  pub store : IsHonest g old → IsOverCleanDisk g new → length old.pending < MAX_PENDING
+  pub store : IsHonest g old → IsOverCleanDisk g new → length old.pending < 64
       → result ≡ Err Store → HasFailed g old.conn new.conn

@@ -14,4 +14,4 @@ pub use closed_book::ClosedBook;
 pub use refused::Refused;
 pub use s10_rows::OpenFault;
 pub use s10_statements::{NoObserver, Observer};
-pub use sql_book::{MAX_PENDING, SqlBook};
+pub use sql_book::SqlBook;

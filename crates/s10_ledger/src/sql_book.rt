@@ -11,7 +11,7 @@ use crate::faults::opening_fault;
 use crate::lookups::{ask, usage_in};
 use crate::pending::{append_pending, commit_calls, is_pending, keep_call};
 use crate::refused::Refused;
-use s10_book::{Book, BookFault, Faults, GroupCommit, LastFailure};
+use s10_book::{Book, BookFault, Faults, GroupCommit, LastFailure, MAX_BATCH};
 use s10_core::Id;
 use s10_history::{Candidate, Entry, HolderKey, Issue, Range, SerialSpan, Settings, Usage};
 use s10_index::CallIndex;
@@ -20,9 +20,6 @@ use s10_statements::{NoObserver, Observer, create_tables, refusal_of};
 use sqlite::{Alter, Connection, Error, MemStore};
 use std::alloc::Global;
 use std::marker::Model;
-
-/// The greatest number of pending calls.
-pub const MAX_PENDING: usize = 64;
 
 /// A book over the tables of a connection.
 ///
@@ -403,21 +400,21 @@ impl<S: Alter> SqlBook<S> {
         Ok(())
     }
 
-    // Commits if `MAX_PENDING` calls are pending. Otherwise asks the connection, as the reads do.
+    // Commits if `MAX_BATCH` calls are pending. Otherwise asks the connection, as the reads do.
     fn make_room(&mut self) -> Result<(), BookFault>
         ensures faults { CountsResult result self.old.faults self.new.faults }
         ensures unchanged { LeavesUnchanged S.Store self.old self.new }
         ensures opened { IsOverCleanDisk S.Store self.new
             → OnOk result (IsHonest S.Store self.new) }
-        ensures room { OnOk result (length self.new.pending < MAX_PENDING) }
-        ensures uncommitted { IsHonest S.Store self.new → length self.old.pending < MAX_PENDING
+        ensures room { OnOk result (length self.new.pending < 64) }
+        ensures uncommitted { IsHonest S.Store self.new → length self.old.pending < 64
             → ((state S.Store self.new.conn).now ≡ (state S.Store self.old.conn).now)
             × (self.new.pending ≡ self.old.pending) }
         ensures store { IsHonest S.Store self.old → IsOverCleanDisk S.Store self.new
-            → length self.old.pending < MAX_PENDING → result ≡ Err BookFault.Store
+            → length self.old.pending < 64 → result ≡ Err BookFault.Store
             → HasFailed S.Store self.old.conn self.new.conn }
     {
-        if self.pending.len() >= MAX_PENDING {
+        if self.pending.len() >= MAX_BATCH as usize {
             return self.commit_all();
         }
         self.ask_again()
@@ -425,7 +422,7 @@ impl<S: Alter> SqlBook<S> {
 
     // Appends the call to the pending ones.
     fn append_call(&mut self, entry: &Entry) -> Result<(), BookFault>
-        requires room { length self.old.pending < MAX_PENDING }
+        requires room { length self.old.pending < 64 }
         requires follows { IsHonest S.Store self.old → MayFollow (history_of S.Store self.old)
             self.old.terms entry.now }
         ensures faults { CountsResult result self.old.faults self.new.faults }
@@ -517,7 +514,7 @@ impl<S: Alter> GroupCommit for SqlBook<S> {
 
     ghost appends = { Appends S.Store };
 
-    /// Appends the call to the pending ones, in the process. If `MAX_PENDING` calls are pending,
+    /// Appends the call to the pending ones, in the process. If `MAX_BATCH` calls are pending,
     /// commits these first. If fewer are pending, the database is unchanged.
     fn append(&mut self, entry: Entry) -> Result<(), BookFault> {
         if let Err(fault) = self.make_room() {

@@ -1,7 +1,6 @@
 use Rattle.std.proofs.Common.{◌<◌, length, arith}
 use Rattle.std.proofs.lemmas.List.{length-map}
 use Rattle.s10_rows.specs.declared.call_write.CallWrite.{CallWrite}
-use Rattle.s10_ledger.specs.declared.sql_book.TheConstants.{MAX_PENDING}
 use Rattle.s10_ledger.proofs.PendingLemmas.{sound_after_hold, sound_is_honest, written_calls}
 use Rattle.s10_ledger.proofs.PendingLemmas.{calls_if_left}
 use Rattle.s10_ledger.proofs.sql_book.SqlBook.append_call.Goals as goal
@@ -9,7 +8,7 @@ use Rattle.s10_ledger.proofs.sql_book.SqlBook.append_call.Goals as goal
 pub invariant_of-self : goal.invariant_of-self
 invariant_of-self g c =
     let k = c.append_pending-held.ensures in
-    let few : length c.self.inside.pending.items < MAX_PENDING =
+    let few : length c.self.inside.pending.items < 64 =
     omega (
       arith,
       length-map c.self.inside.pending.items (λ (w : CallWrite). w.entry),
