@@ -1,7 +1,6 @@
 -- What a withdrawn range gives, and what its withdrawal leaves unchanged.
-use Rattle.std.proofs.Common.{◌≡◌, ℕ, ◌+◌, Bool, true, false, not, ◌||◌, cond, eqb, ltb}
-use Rattle.std.proofs.Common.{List, [], ◌∷◌, ◌++◌, length, Option, Some, refl, sym, ap}
-use Rattle.std.proofs.Common.{ap₂, ◌∙◌, subst}
+use Rattle.std.proofs.Common.{◌≡◌, ℕ, ◌+◌, Bool, true, false, not, ◌||◌, cond, eqb, ltb, List, []}
+use Rattle.std.proofs.Common.{◌∷◌, ◌++◌, length, Option, Some, refl, sym, ap, ap₂, ◌∙◌, subst}
 use Rattle.std.specs.Prelude.{find, All, Contains, IsTrue}
 use Rattle.std.specs.List.{list_any}
 use Rattle.std.proofs.lemmas.Bool.{both_ways, and_parts, or_left, not-true}
@@ -22,8 +21,7 @@ use Rattle.s10_history.specs.declared.issuance.Issuance.{Issuance}
 use Rattle.s10_history.specs.Settings.{Terms}
 use Rattle.s10_history.specs.History.{ranges_of, range_of_grant, lies_in, is_own, overlaps}
 use Rattle.s10_history.specs.History.{withdraws, is_closed, is_held, is_open, ranges_open}
-use Rattle.s10_history.specs.Issues.{issues_of, carried_by, last_issue_of}
-use Rattle.s10_history.specs.Issues.{voids_by, id_at, pick_of}
+use Rattle.s10_history.specs.Issues.{issues_of, carried_by, last_issue_of, voids_by, id_at, pick_of}
 use Rattle.s10_book.specs.Rules.{IsLegal, MayFollow, body_answer, has_free_pick, grant_answer}
 use Rattle.s10_book.specs.Rules.{void_answer, void_issue, query_answer, status_of_issue}
 use Rattle.s10_history.proofs.Numbering.{Contains-find}

@@ -26,8 +26,7 @@ use Rattle.s10_ends.specs.declared.answer.Answer.{Answer}
 use Rattle.s10_ends.specs.declared.answer.Answer.TheVariants.{Reply, Dropped, Faulted}
 use Rattle.s10_ends.specs.declared.exchange.Exchange.{Exchange}
 use Rattle.s10_ends.specs.declared.server_turn.ServerTurn.TheVariants as turns
-use Rattle.s10_ends.specs.Served.{Dated, AskNothing, GivesOutcome, IsOwed, IsAnswered}
-use Rattle.s10_ends.specs.Served.{Served}
+use Rattle.s10_ends.specs.Served.{Dated, AskNothing, GivesOutcome, IsOwed, IsAnswered, Served}
 use Rattle.s10_ends.specs.Turn.{Turn, Handles, AsksCommitted, SendsReply, WithholdsReply}
 use Rattle.s10_ends.specs.Turn.{Answers, sent_turn}
 use Rattle.s10_ends.specs.Batch.{ReceivesAll, AnswersAll, ServesBatch, IsSentCommitted}

@@ -11,9 +11,8 @@ use Rattle.s10_rows.specs.CallRow.{StoredCall}
 use Rattle.s10_replay.specs.RightRows.{entry_of}
 use Rattle.s10_rows.specs.Tables.{HaveSameRows, call_row, call_rows, call_rows_from}
 use Rattle.s10_rows.specs.Selected.{IsCall, arrives_between}
-use Rattle.s10_statements.specs.Shown.{StandsFor, shown_call, call_columns}
+use Rattle.s10_statements.specs.Shown.{StandsFor, shown_call, call_columns, call_from}
 use Rattle.s10_ledger.specs.Ledger.{in_turn, history_in}
-use Rattle.s10_statements.specs.Shown.{call_from}
 use Rattle.s10_replay.proofs.SameRows.{same_length}
 use Rattle.s10_replay.proofs.Calls.{entry_of-call_row}
 use Rattle.s10_replay.proofs.CallRows.{AreThose, selected_by_place}

@@ -5,8 +5,7 @@ use Rattle.sqlite.specs.Effect.{Database}
 use Rattle.sqlite.specs.State.{HasCleanDisk}
 use Rattle.sqlite.specs.Held.{Held, state}
 use Rattle.s10_schema.specs.Schema.{IsLedgerSchema}
-use Rattle.s10_statements.specs.ConnectionState.{IsQuiescent, StaysUnclean}
-use Rattle.s10_statements.specs.ConnectionState.{AddsNoCrashState}
+use Rattle.s10_statements.specs.ConnectionState.{IsQuiescent, StaysUnclean, AddsNoCrashState}
 use Rattle.s10_statements.specs.Statements.{LeavesTables}
 
 module _ {S : Type 0} (g : Ghosts S) (old mid new : Held S) (first : LeavesTables g old mid)

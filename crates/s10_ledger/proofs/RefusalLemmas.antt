@@ -35,7 +35,8 @@ use Rattle.s10_rows.specs.Tables.{call_rows_from, call_rows, range_rows, serial_
 use Rattle.s10_replay.specs.RightRows.{IsRightRow, AreRight, kept_of, entry_of}
 use Rattle.s10_rows.specs.Selected.{IsCall}
 use Rattle.s10_statements.specs.Shown.{shown_head, shown_call, shown_range, shown_serial}
-use Rattle.s10_statements.specs.Shown.{shown_closed}
+use Rattle.s10_statements.specs.Shown.{shown_closed, head_from, call_from, range_from, serial_from}
+use Rattle.s10_statements.specs.Shown.{closed_from}
 use Rattle.s10_replay.specs.CheckedTables.{IsHead, IsFirstWrong, AreDerived, IsRefusal}
 use Rattle.s10_ledger.specs.Refusals.{HasRows, IsRefusedFor, IsOpeningRefusal}
 use Rattle.s10_ledger.specs.Ledger.{IsAnyLedger, history_in}
@@ -43,8 +44,6 @@ use Rattle.s10_ledger.specs.declared.opening.table_layout.TableLayout.{TableLayo
 use Rattle.s10_ledger.specs.declared.opening.table_layout.TableLayout.TheVariants.{Whole, Old}
 use Rattle.s10_ledger.specs.TableLayout.{HasTableLayout}
 use Rattle.s10_ledger.proofs.Forms.{AreShown, four_lack, form_declared, form_shown}
-use Rattle.s10_statements.specs.Shown.{head_from, call_from, range_from, serial_from}
-use Rattle.s10_statements.specs.Shown.{closed_from}
 use Rattle.s10_replay.proofs.SameRows.{one_row}
 use Rattle.s10_rows.proofs.Replaced.{same_rows}
 use Rattle.s10_replay.proofs.Calls.{entry_of-call_row, row_replies}

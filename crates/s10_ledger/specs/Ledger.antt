@@ -1,7 +1,6 @@
 -- Defines what a ledger in tables holds, and when it is honest.
-use Rattle.std.specs.Prelude.{◌≡◌, ◌⊎◌, ℕ, zero, suc, ◌+◌, ◌-◌, ◌^◌, ◌≤◌, min, pos, IsTrue}
-use Rattle.std.specs.Prelude.{List, [], ◌++◌}
-use Rattle.std.specs.Prelude.{length, map, filter, All, Option, Some, None, refl}
+use Rattle.std.specs.Prelude.{◌≡◌, ◌⊎◌, ℕ, zero, suc, ◌+◌, ◌-◌, ◌^◌, ◌≤◌, min, pos, IsTrue, List}
+use Rattle.std.specs.Prelude.{[], ◌++◌, length, map, filter, All, Option, Some, None, refl}
 use Rattle.std.specs.Coded.{Coded, code_by, coded×, coded_ℕ, coded_list}
 use Rattle.sqlite_trees.specs.Tree.{Trees}
 use Rattle.sqlite_trees.specs.declared.store.Store.{Ghosts}

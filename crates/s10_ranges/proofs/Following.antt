@@ -35,8 +35,7 @@ use Rattle.s10_ranges.proofs.Found.{find_none, find_first}
 use Rattle.s10_ranges.proofs.Marked.{mark_at_issues}
 use Rattle.s10_ranges.proofs.Orders.{at_place}
 use Rattle.s10_book.proofs.Carrying.{AtPicks}
-use Rattle.s10_ranges.proofs.Turning.{in_order, none_granted, mark_new}
-use Rattle.s10_ranges.proofs.Turning.{mark_inside, mark_outside}
+use Rattle.s10_ranges.proofs.Turning.{in_order, none_granted, mark_new, mark_inside, mark_outside}
 
 -- A range that is found has the number of one of the list.
 pub found_number : (p : Range → Bool) (rs : List Range) (r : Range) → AreSound rs

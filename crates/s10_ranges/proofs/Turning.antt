@@ -21,8 +21,7 @@ use Rattle.s10_history.specs.Settings.{Terms}
 use Rattle.s10_history.specs.History.{ranges_of, range_of_grant, lies_in}
 use Rattle.s10_history.specs.Issues.{issues_of, carried_by, is_of, is_issued, id_at, serials}
 use Rattle.s10_history.specs.Issues.{least_serial_unissued, serial_issued_earliest, pick_of}
-use Rattle.s10_history.specs.Issues.{serial_after, is_voided, last_issue_of}
-use Rattle.s10_history.specs.Issues.{candidate_of}
+use Rattle.s10_history.specs.Issues.{serial_after, is_voided, last_issue_of, candidate_of}
 use Rattle.s10_book.specs.Rules.{IsLegal, MayFollow}
 use Rattle.s10_book.proofs.Free.{id_equal, id_within, none_within}
 use Rattle.s10_book.proofs.Marks.{Turns, turns_inside, turns_outside, pick_turns}

@@ -1,6 +1,5 @@
 -- What is true at one issuance of a call, over the issuances before it.
-use Rattle.std.proofs.Common.{◌≡◌, ℕ, ◌+◌, List, [], ◌∷◌, ◌++◌, length}
-use Rattle.std.proofs.Common.{Some, sym}
+use Rattle.std.proofs.Common.{◌≡◌, ℕ, ◌+◌, List, [], ◌∷◌, ◌++◌, length, Some, sym}
 use Rattle.std.specs.Prelude.{Contains, slice_get}
 use Rattle.s10_core.specs.declared.id.Id.{Id}
 use Rattle.s10_history.specs.declared.entry.Entry.{Entry}
@@ -11,8 +10,7 @@ use Rattle.s10_history.specs.History.{ranges_of}
 use Rattle.s10_history.specs.Issues.{issues_at, pick_of, pick_after}
 use Rattle.s10_book.specs.Rules.{IsLegal, MayFollow}
 use Rattle.s10_book.proofs.Carried.{made_by, IsPicked}
-use Rattle.s10_book.proofs.Marks.{mark_step, pick_turns}
-use Rattle.s10_book.proofs.Marks.{picked_mark}
+use Rattle.s10_book.proofs.Marks.{mark_step, pick_turns, picked_mark}
 use Rattle.s10_rows.specs.RowWrites.{issues_before}
 use Rattle.s10_book.proofs.Carrying.{AtPicks, at_picks, carried_at, picked_at}
 

@@ -1,7 +1,7 @@
 -- The derived rows, and whether stored rows are the same.
 use Rattle.std.proofs.Common.{◌≡◌, Bool, true, false, cond, List, [], ◌∷◌, map, get_or, ℤ, ◌<ℤ◌}
 use Rattle.std.proofs.Common.{refl, sym, subst, IsPermutation, IsSorted, Ordering, Less}
-use Rattle.std.proofs.Common.{Equal, Greater, is_eq}
+use Rattle.std.proofs.Common.{Equal, Greater, is_eq, arith}
 use Rattle.std.specs.Prelude.{All, ◌&&◌, ◌↔◌, IsTrue}
 use Rattle.std.specs.List.{list_any, AllByRecursion}
 use Rattle.std.specs.Cmp.{IsTotalOrder}
@@ -35,6 +35,7 @@ use Rattle.s10_replay.proofs.Tests.{one_number}
 use Rattle.s10_replay.proofs.LastIssues.{All-last_issues}
 use Rattle.s10_replay.proofs.SerialRows.{issues_of_fit}
 use Rattle.std.proofs.lemmas.Option.{slice_get-get_or}
+use Rattle.std.proofs.lemmas.Grind.{common_steps}
 
 -- Sorted rows are equal to rising ones exactly if both have the same rows.
 pub same_where_sorted : {X : Type 0} (cmp : X → X → Ordering) → IsTotalOrder cmp
@@ -202,10 +203,7 @@ range_decides a b =
 
 pub closed_decides : (a b : ClosedRow)
     → Decides (int_eq a.num b.num && (int_eq a.arrival b.arrival)) (a ≡ b)
-closed_decides a b =
-    Decides-like _ (λ p. λ i. record { num = p.0 i; arrival = p.1 i })
-    (λ e. (λ i. (e i).num, λ i. (e i).arrival))
-    (Decides-and _ _ (Decides-int_eq a.num b.num) (Decides-int_eq a.arrival b.arrival))
+closed_decides a b = grind (arith, common_steps)
 
 pub serial_decides : (a b : SerialRow)
     → Decides (int_eq a.pair b.pair

@@ -14,14 +14,13 @@ use Rattle.s10_history.specs.Settings.{Terms}
 use Rattle.s10_history.specs.History.{ranges_of, range_of_grant}
 use Rattle.s10_history.specs.Issues.{issues_of, pick_of, carried_by}
 use Rattle.s10_book.specs.Rules.{IsLegal, MayFollow, body_answer}
-use Rattle.s10_history.proofs.Push.{ranges_from-push}
+use Rattle.s10_history.proofs.Push.{ranges_from-push, same_issues}
 use Rattle.s10_book.proofs.Marks.{pick_new}
 use Rattle.s10_rows.specs.declared.range_row.RangeRow.{RangeRow}
 use Rattle.s10_rows.specs.declared.range_write.RangeWrite.TheVariants.{New}
 use Rattle.s10_rows.specs.Tables.{range_row, range_rows, serial_rows}
 use Rattle.s10_rows.specs.RowWrites.{MakesWrites}
 use Rattle.s10_rows.proofs.Replaced.{same_rows}
-use Rattle.s10_history.proofs.Push.{same_issues}
 use Rattle.s10_replay.proofs.RowsAfterCall.{same_serial_rows, none_voided}
 use Rattle.s10_book.proofs.Apart.{granted_parts}
 

@@ -27,7 +27,7 @@ use Rattle.s10_history.specs.Issues.{last_issuance_of, voids, voided_after, pick
 use Rattle.s10_history.specs.Issues.{serial_after}
 use Rattle.s10_book.specs.Rules.{IsLegal, MayFollow}
 use Rattle.s10_history.proofs.Numbering.{Numbered, numbered, past_end}
-use Rattle.s10_history.proofs.Push.{issues_from-push}
+use Rattle.s10_history.proofs.Push.{issues_from-push, same_ranges}
 use Rattle.s10_book.proofs.Apart.{apart}
 use Rattle.s10_book.proofs.Carried.{made_by}
 use Rattle.s10_book.proofs.Marks.{one_range}
@@ -55,7 +55,6 @@ use Rattle.s10_rows.proofs.Writing.{ranges_then, serials_then}
 use Rattle.s10_replay.proofs.CallIssues.{IsIssueAt, issue_at, pick_moved}
 use Rattle.s10_replay.proofs.RowsAfterCall.{row_in, same_row_in, none_made, none_voided}
 use Rattle.s10_book.proofs.Carrying.{issue_next}
-use Rattle.s10_history.proofs.Push.{same_ranges}
 
 -- The number of a range gives its index.
 num_at : (n : ℕ) (r : Range) (rs : List Range) → Numbered n rs → (there : Contains rs r)

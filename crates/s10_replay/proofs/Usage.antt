@@ -1,8 +1,7 @@
 -- The usage of a range, counted row by row.
-use Rattle.std.proofs.Common.{zero-add, take_all, length-take, ◌≡◌, ℕ, ◌+◌, ◌-◌, ◌<◌}
-use Rattle.std.proofs.Common.{◌≤◌, Bool, true, false, not, cond, leb, ◌&&◌, pos, List, [], ◌∷◌, map}
-use Rattle.std.proofs.Common.{length, get_or, take, Option, Some, None, refl, sym, ap, ap₂, ◌∙◌}
-use Rattle.std.proofs.Common.{arith}
+use Rattle.std.proofs.Common.{zero-add, take_all, length-take, ◌≡◌, ℕ, ◌+◌, ◌-◌, ◌<◌, ◌≤◌, Bool}
+use Rattle.std.proofs.Common.{true, false, not, cond, leb, ◌&&◌, pos, List, [], ◌∷◌, map, length}
+use Rattle.std.proofs.Common.{get_or, take, Option, Some, None, refl, sym, ap, ap₂, ◌∙◌, arith}
 use Rattle.std.specs.Prelude.{filter, All, max, nat_le, option_to_list, is_some, count_by}
 use Rattle.std.specs.List.{sum_by}
 use Rattle.std.specs.Option.{option_map, unwrap_or}

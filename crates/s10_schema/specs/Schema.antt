@@ -1,12 +1,11 @@
 -- Defines the five tables of a ledger, as CREATE TABLE declares them in an empty database, each
 -- with its tree, and what may follow them. A ledger of an earlier build has only the first four.
 use Rattle.std.specs.Prelude.{◌≡◌, true, false, [], ◌∷◌, Some, None, codes, List, ℕ, Bool, not}
-use Rattle.std.specs.Prelude.{◌&&◌, ◌||◌, ◌==◌, drop, slice_index_or}
+use Rattle.std.specs.Prelude.{◌&&◌, ◌||◌, ◌==◌, drop, slice_index_or, pos}
 use Rattle.std.specs.List.{list_all}
 use Rattle.sqlite_value.specs.declared.keys.Collation.TheVariants.{Binary}
 use Rattle.sqlite_value.specs.declared.value.Value.TheVariants.{Null, Int}
 use Rattle.sqlite_value.specs.Keys.{plain}
-use Rattle.std.specs.Prelude.{pos}
 use Rattle.sqlite_sql.specs.declared.ops.BinaryOp.TheVariants.{Compare}
 use Rattle.sqlite_sql.specs.declared.ops.CompareOp.TheVariants.{Eq}
 use Rattle.sqlite_sql.specs.Term.{Term, lit, col, op2}

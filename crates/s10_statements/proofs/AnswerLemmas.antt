@@ -33,9 +33,8 @@ use Rattle.s10_rows.specs.Selected.{is_within}
 use Rattle.s10_statements.specs.Statements.{select_head_sql, select_calls_sql, select_ranges_sql}
 use Rattle.s10_statements.specs.Statements.{select_serials_within_sql, select_serials_sql}
 use Rattle.s10_statements.specs.Statements.{select_closed_sql}
-use Rattle.s10_statements.proofs.Texts.{read_of, IsQuery, by_one, by_pair, head_read}
-use Rattle.s10_statements.proofs.Texts.{calls_query, calls_read}
-use Rattle.s10_statements.proofs.Texts.{ranges_read, within_tests, within_read}
+use Rattle.s10_statements.proofs.Texts.{read_of, IsQuery, by_one, by_pair, head_read, calls_query}
+use Rattle.s10_statements.proofs.Texts.{calls_read, ranges_read, within_tests, within_read}
 use Rattle.s10_statements.proofs.Texts.{wide_terms, serials_read, closed_read, terms_in}
 use Rattle.s10_statements.proofs.ReadLemmas.{kept_are, rows_are, rows_rise, selected}
 

@@ -28,11 +28,10 @@ use Rattle.s10_statements.specs.Statements.{select_serials_within_sql, select_se
 use Rattle.s10_statements.specs.Statements.{select_closed_sql}
 use Rattle.s10_statements.proofs.ReadLemmas.{read_back}
 use Rattle.s10_statements.proofs.GoneLemmas.{all_moved}
-use Rattle.s10_statements.proofs.AnswerLemmas.{wide_columns, head_shows}
-use Rattle.s10_statements.proofs.AnswerLemmas.{calls_shows, calls_rise, ranges_shows, ranges_rise}
-use Rattle.s10_statements.proofs.AnswerLemmas.{within_shows, within_params, within_test}
-use Rattle.s10_statements.proofs.AnswerLemmas.{within_selects, serials_shows}
-use Rattle.s10_statements.proofs.AnswerLemmas.{closed_shows, closed_rise}
+use Rattle.s10_statements.proofs.AnswerLemmas.{wide_columns, head_shows, calls_shows, calls_rise}
+use Rattle.s10_statements.proofs.AnswerLemmas.{ranges_shows, ranges_rise, within_shows}
+use Rattle.s10_statements.proofs.AnswerLemmas.{within_params, within_test, within_selects}
+use Rattle.s10_statements.proofs.AnswerLemmas.{serials_shows, closed_shows, closed_rise}
 
 whole : {X : Type 0} (shown : X → Row) (vs rows : List Row) (found : List X) → IsPermutation vs rows
     → map shown found ≡ rows → HaveSameRows (map shown found) vs

@@ -54,16 +54,14 @@ use Rattle.s10_rows.specs.Tables.{Tables}
 use Rattle.s10_rows.specs.RowWrites.{is_at, with_serial}
 use Rattle.s10_statements.specs.Shown.{HasTables, shown_serial, serial_columns, HasIntegerRowid}
 use Rattle.s10_statements.specs.Statements.{upsert_serial_sql}
-use Rattle.s10_statements.proofs.WriteTexts.{issue_terms, again_means, issue_upsert}
-use Rattle.s10_statements.proofs.WriteTexts.{update_query}
+use Rattle.s10_statements.proofs.WriteTexts.{issue_terms, again_means, issue_upsert, update_query}
 use Rattle.s10_statements.proofs.Apart.{no_works, none_shares, not_serials, is_as_it_was}
 use Rattle.s10_statements.proofs.Apart.{after_apart}
 use Rattle.s10_statements.proofs.ReadLemmas.{kept_are, rows_are}
 use Rattle.sqlite_keyed.proofs.ListLemmas.{filter_same, all_unmap, all-map, all-filter}
 use Rattle.s10_statements.proofs.PutLemmas.{cast_int, cast_null, went, same_value, Spares, put_one}
 use Rattle.s10_statements.proofs.InsertLemmas.{one_more}
-use Rattle.s10_statements.proofs.GoneLemmas.{all_moved, HasId}
-use Rattle.s10_statements.proofs.GoneLemmas.{all_ids, same_int, has_id, stays}
+use Rattle.s10_statements.proofs.GoneLemmas.{all_moved, HasId, all_ids, same_int, has_id, stays}
 use Rattle.std.proofs.lemmas.List.{length-map}
 use Rattle.std.proofs.lemmas.Bool.{and_parts}
 

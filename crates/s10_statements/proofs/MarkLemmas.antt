@@ -49,8 +49,7 @@ use Rattle.s10_statements.proofs.ReadLemmas.{kept_are, rows_are}
 use Rattle.s10_statements.proofs.PutLemmas.{cast_int, cast_null, went, same_value, Spares, put_one}
 use Rattle.s10_statements.proofs.InsertLemmas.{stored_range}
 use Rattle.s10_statements.proofs.IssueLemmas.{length_numbered, one_changed}
-use Rattle.s10_statements.proofs.GoneLemmas.{all_moved, passing, same_int}
-use Rattle.s10_statements.proofs.GoneLemmas.{has_id, stays}
+use Rattle.s10_statements.proofs.GoneLemmas.{all_moved, passing, same_int, has_id, stays}
 use Rattle.std.proofs.lemmas.List.{length-map}
 
 -- The rows that the statement finds, as it writes them back after their rowids.

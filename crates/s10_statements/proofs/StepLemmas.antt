@@ -1,6 +1,5 @@
 -- Steps that follow one another in a transaction.
-use Rattle.std.proofs.Common.{◌≡◌, ◌⊎◌, inl, inr, Result, Ok, OnOk, Bool, true, refl, ◌∙◌}
-use Rattle.std.proofs.Common.{arith}
+use Rattle.std.proofs.Common.{◌≡◌, ◌⊎◌, inl, inr, Result, Ok, OnOk, Bool, true, refl, ◌∙◌, arith}
 use Rattle.std.proofs.lemmas.Result.{on_ok_weaker, err_from_is_err_and}
 use Rattle.std.specs.Borrow.{MutBor}
 use Rattle.std.specs.Prelude.{⊤, IsErrAnd, OnOk}

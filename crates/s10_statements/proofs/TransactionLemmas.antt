@@ -10,8 +10,7 @@ use Rattle.sqlite.specs.declared.error.Error.{Error}
 use Rattle.sqlite.specs.Held.{Held, state}
 use Rattle.sqlite.specs.State.{State, Shows, KeepsCounts, IsRolledBack, Survives}
 use Rattle.sqlite.specs.Steps.{FailsToCommit}
-use Rattle.s10_statements.specs.ConnectionState.{IsQuiescent, IsClean, IsOpen}
-use Rattle.s10_statements.specs.ConnectionState.{StaysUnclean}
+use Rattle.s10_statements.specs.ConnectionState.{IsQuiescent, IsClean, IsOpen, StaysUnclean}
 use Rattle.s10_statements.specs.Steps.{IsStep}
 use Rattle.s10_statements.proofs.CrashLemmas.{spared}
 

@@ -1,7 +1,6 @@
 -- A datagram is at most one reply, and bytes that are one are not refused.
-use Rattle.std.proofs.Common.{Bool, true, cond, Some, ltb, eqb, ◌≡◌, ℕ, ◌+◌, ◌*◌, List, []}
-use Rattle.std.proofs.Common.{◌++◌, length, None, Result, Ok, Err, refl, sym, ap, ◌∙◌, arith}
-use Rattle.std.proofs.Common.{append-nil}
+use Rattle.std.proofs.Common.{Bool, true, cond, Some, ltb, eqb, ◌≡◌, ℕ, ◌+◌, ◌*◌, List, [], ◌++◌}
+use Rattle.std.proofs.Common.{length, None, Result, Ok, Err, refl, sym, ap, ◌∙◌, arith, append-nil}
 use Rattle.std.specs.Prelude.{IfOk, IfErr, IsOkAnd}
 use Rattle.std.specs.Result.{result_err}
 use Rattle.s10_wire.specs.declared.body.Body.{Body}
@@ -24,9 +23,8 @@ use Rattle.s10_wire.specs.Ids.{spellings_of}
 use Rattle.s10_wire.specs.Kind.{kind_of, is_reply_long, fits}
 use Rattle.s10_wire.specs.Datagrams.{datagram, outcome_bytes, IsBody, IsOutcome, Replies}
 use Rattle.s10_wire.specs.Reply.{request_of, outcome_of}
-use Rattle.s10_wire.specs.WireFault.{first_refusal, identifier_fields}
-use Rattle.s10_wire.specs.WireFault.{header_refusals, request_fields, outcome_refusals}
-use Rattle.s10_wire.specs.WireFault.{reply_refusals}
+use Rattle.s10_wire.specs.WireFault.{first_refusal, identifier_fields, header_refusals}
+use Rattle.s10_wire.specs.WireFault.{request_fields, outcome_refusals, reply_refusals}
 use Rattle.s10_wire.proofs.Identifiers.{spelling_passes}
 use Rattle.s10_wire.proofs.Refusals.{second_decides, fields_decide}
 use Rattle.std.proofs.lemmas.Bool.{and_from, lt-ltb, le-ltb, eq-eqb, eqb-true}

@@ -3,10 +3,9 @@ use Rattle.std.proofs.lemmas.Result.{err_from_is_err_and}
 use Rattle.s10_history.specs.declared.entry.Entry.{Entry}
 use Rattle.s10_history.specs.History.{find_entry, day_of}
 use Rattle.s10_history.specs.Settings.{Terms}
-use Rattle.s10_book.proofs.Calls.{grows_none, grows_trans, whole_stays, whole_kept}
+use Rattle.s10_book.proofs.Calls.{grows_none, grows_trans, whole_stays, whole_kept, FindsAfter-refl}
 use Rattle.s10_ends.proofs.Faulted.{told_counts, never_full, ok_not_full}
 use Rattle.s10_ends.proofs.Applied.{once_new, kept_new}
-use Rattle.s10_book.proofs.Calls.{FindsAfter-refl}
 use Rattle.s10_ends.proofs.Stops.{finds_once, kept_once}
 use Rattle.s10_ends.proofs.server.execute.Goals as goal
 

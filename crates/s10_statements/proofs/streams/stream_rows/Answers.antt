@@ -1,5 +1,4 @@
-use Rattle.std.proofs.Common.{◌≡◌, inl, Option, Some, None, refl, sym, subst, ◌∙◌}
-use Rattle.std.proofs.Common.{[]}
+use Rattle.std.proofs.Common.{◌≡◌, inl, Option, Some, None, refl, sym, subst, ◌∙◌, []}
 use Rattle.sqlite_value.specs.Order.{Row}
 use Rattle.std.proofs.lemmas.Result.{err_from_is_err_and}
 use Rattle.sqlite.specs.Given.{Advances, row_if}

@@ -1,6 +1,5 @@
 use Rattle.std.proofs.Common.{◌≡◌, ℕ, ◌+◌, ◌^◌, ◌<◌, ◌≤◌, true, false, length, refl, arith, Fits}
-use Rattle.std.proofs.Common.{inl, inr}
-use Rattle.std.proofs.Common.{w64}
+use Rattle.std.proofs.Common.{inl, inr, w64}
 use Rattle.std.proofs.lemmas.List.{drop_all}
 use Rattle.s10_link.proofs.Scripts.{takes_send}
 use Rattle.s10_link.proofs.script_link.ScriptLinkLink.send.Goals as goal
