@@ -24,7 +24,7 @@ use Rattle.s10_jobs.specs.Asked.{asked_status, asked_line}
 use Rattle.s10_jobs.specs.Lines.{refused_line}
 use Rattle.s10_jobs.specs.Words.{link_fault_words}
 use Rattle.s10_jobs.specs.Questions.{refusal_words, WordsAsk, IsQuestionRefusal}
-use Rattle.s10_sockets.specs.Questioning.{IsUnasked, IsAsked, any_address}
+use Rattle.s10_jobs.specs.Questioning.{IsUnasked, IsAsked, any_address}
 
 -- A text that cannot be read.
 pub refused_unasked : (question : Question) (refusal : Refusal) (old new : Option (List ℕ))

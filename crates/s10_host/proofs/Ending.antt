@@ -30,7 +30,7 @@ use Rattle.s10_link.specs.Peer.{SpellsPeer}
 use Rattle.s10_jobs.specs.declared.reporting.Report.{Report}
 use Rattle.s10_jobs.specs.declared.reporting.Report.TheVariants.{Ranges, Issues}
 use Rattle.s10_host.specs.declared.loop_resources.LoopResources.{LoopResources}
-use Rattle.s10_sockets.specs.Unbound.{IsUnbound}
+use Rattle.s10_jobs.specs.Unbound.{IsUnbound}
 use Rattle.s10_host.specs.Files.{FileConnection, FileLedger, ClosedFiles, Copies, ClosesInto}
 use Rattle.s10_host.specs.Files.{IsFoundIn, IsFileFault, IsAbsenceOr, IsNotMade, IsNotOpened}
 use Rattle.s10_host.specs.Files.{LeavesClean, AreFilesOf, KeepsRefused}
@@ -43,7 +43,7 @@ use Rattle.s10_host.specs.Jobs.{HasReported}
 use Rattle.s10_host.specs.Jobs.{HasAudited, HasEnded}
 use Rattle.s10_host.specs.declared.ledger_job.LedgerJob.{LedgerJob}
 use Rattle.s10_host.specs.declared.ledger_job.LedgerJob.TheVariants.{Create, Serve, Report as ReportOn}
-use Rattle.s10_host.specs.LedgerJobs.{IsRefusedAs, EndsOver, EndsIn}
+use Rattle.s10_host.specs.LedgerJobs.{IsRefusedAs, EndsOver}
 use Rattle.s10_jobs.specs.Days.{IsTaken}
 use Rattle.sqlite.specs.Effect.{Database}
 use Rattle.s10_statements.specs.ConnectionState.{IsOpen}
@@ -387,7 +387,7 @@ module _ (S : RattleType) (first : Ghosts S.Denot) where
       }
 
   -- How the turns over existing files ended.
-  served_over : {C : Type 0} (gives : C → Option ℕ → C → Type 0) (bind : List ℕ) (at : Peer)
+  pub served_over : {C : Type 0} (gives : C → Option ℕ → C → Type 0) (bind : List ℕ) (at : Peer)
       (day : Option ℕ) (begun ended : C) (count : ℕ) (was : FileConnection S first)
       (old new : Option (List ℕ)) (result : Result JobStatus WriteFault)
       (files : Option (ClosedFiles S first)) (link : Option BoundLink)
@@ -484,31 +484,30 @@ module _ (S : RattleType) (first : Ghosts S.Denot) where
         );
       })
 
-  unopened : (old new : Option (List ℕ)) (result : Result JobStatus WriteFault)
-      (files : Option (ClosedFiles S first))
-      → IfOk result (FailsByLedger (IsAbsenceOr IsFileFault) old new) → files ≡ None
-      → IsUnopened S first old new result files
-  unopened old new result None printed none = absent_or_refused old new result printed
-  unopened old new result (Some f) printed none = absurd cc
+  unopened : (fault : OpenFault) (old new : Option (List ℕ)) (result : Result JobStatus WriteFault)
+      (files : Option (ClosedFiles S first)) → IsAbsenceOr IsFileFault fault
+      → IfOk result (λ status. (status ≡ Failed) × Appends old new (ledger_line fault))
+      → files ≡ None → IsUnopened S first old new result files
+  unopened fault old new result None is says none = absent_or_refused old new result (fails_by
+      (IsAbsenceOr IsFileFault) fault old new result is says)
+  unopened fault old new result (Some f) is says none = absurd cc
 
-  pub served_in : {C : Type 0} (gives : C → Option ℕ → C → Type 0) (bind : List ℕ) (at : Peer)
-      (day : Option ℕ) (begun ended : C) (count : ℕ) (old new : Option (List ℕ))
+  -- A ledger whose file could not be opened is not served.
+  pub not_served : {C : Type 0} (gives : C → Option ℕ → C → Type 0) (bind : List ℕ) (at : Peer)
+      (day : Option ℕ) (begun ended : C) (count : ℕ) (fault : OpenFault) (old new : Option (List ℕ))
       (result : Result JobStatus WriteFault) (files : Option (ClosedFiles S first))
-      (link : Option BoundLink) → SpellsPeer bind at
-      → EndsIn S first gives (Serve at count day) begun ended old new result files link
+      (link : Option BoundLink) → SpellsPeer bind at → IsAbsenceOr IsFileFault fault
+      → IfOk result (λ status. (status ≡ Failed) × Appends old new (ledger_line fault))
+      → files ≡ None → link ≡ None
       → HasServed S first gives bind day begun ended count old new result files link
-  served_in gives bind at day begun ended count old new result files link text
-      (inl (was, found, ends)) =
-      served_over gives bind at day begun ended count was old new result files link text found ends
-  served_in gives bind at day begun ended count old new result files None text
-      (inr (printed, no_files, no_link)) =
-      record {
+  not_served gives bind at day begun ended count fault old new result files link text is says none
+      gone =
+      subst (HasServed S first gives bind day begun ended count old new result files) (sym gone)
+      (record {
         at = tt;
         served = tt;
-        unlinked = λ _. inr (inl ((at, text), unopened old new result files printed no_files));
-      }
-  served_in gives bind at day begun ended count old new result files (Some l) text
-      (inr (printed, no_files, no_link)) = absurd (let none = no_link in cc)
+        unlinked = λ _. inr (inl ((at, text), unopened fault old new result files is says none));
+      })
 
   pub no_day : {C : Type 0} (gives : C → Option ℕ → C → Type 0) (is_of_issues : Bool)
       (day : Option ℕ) (begun ended : C) (old new : Option (List ℕ))
@@ -588,22 +587,30 @@ module _ (S : RattleType) (first : Ghosts S.Denot) where
       )
 
   pub reported_in : {C : Type 0} (gives : C → Option ℕ → C → Type 0) (is_of_issues : Bool)
-      (day : Option ℕ) (begun between ended : C) (report : Report) (old new : Option (List ℕ))
-      (result : Result JobStatus WriteFault)
+      (day : Option ℕ) (begun between ended : C) (report : Report) (was : FileConnection S first)
+      (old new : Option (List ℕ)) (result : Result JobStatus WriteFault)
       (files : Option (ClosedFiles S first)) (link : Option BoundLink)
-      → IsAskedFor gives is_of_issues day begun between report
-      → EndsIn S first gives (ReportOn report) between ended old new result files link
+      → IsAskedFor gives is_of_issues day begun between report → IsFoundIn (image_at first) was
+      → EndsOver gives (ReportOn report) between ended was old new result files link
       → HasReported S first gives is_of_issues day begun ended old new result files
-  reported_in gives is_of_issues day begun between ended report old new result files link asked
-      (inl (was, found, ends)) = inr (
+  reported_in gives is_of_issues day begun between ended report was old new result files link asked
+      found ends = inr (
         report,
         between,
         asked,
         reported_over gives report between ended was old new result files link found ends,
       )
-  reported_in gives is_of_issues day begun between ended report old new result files link asked
-      (inr (printed, no_files, no_link)) =
-      inr (report, between, asked, inl (unopened old new result files printed no_files))
+
+  -- A ledger whose file could not be opened is not reported on.
+  pub not_reported : {C : Type 0} (gives : C → Option ℕ → C → Type 0) (is_of_issues : Bool)
+      (day : Option ℕ) (begun between ended : C) (report : Report) (fault : OpenFault)
+      (old new : Option (List ℕ)) (result : Result JobStatus WriteFault)
+      (files : Option (ClosedFiles S first))
+      → IsAskedFor gives is_of_issues day begun between report → IsAbsenceOr IsFileFault fault
+      → IfOk result (λ status. (status ≡ Failed) × Appends old new (ledger_line fault))
+      → files ≡ None → HasReported S first gives is_of_issues day begun ended old new result files
+  not_reported gives is_of_issues day begun between ended report fault old new result files asked is
+      says none = inr (report, between, asked, inl (unopened fault old new result files is says none))
 
   -- An audit that left these files.
   pub audited_in : (was left : FileConnection S first) (finding : Result ℕ OpenFault)

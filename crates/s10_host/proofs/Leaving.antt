@@ -25,7 +25,7 @@ use Rattle.s10_ends.specs.NearLink.{ServedOn}
 use Rattle.s10_ends.proofs.Near.{LedOn, Whole, near_led, near_whole}
 use Rattle.s10_jobs.specs.declared.job_status.JobStatus.{JobStatus}
 use Rattle.s10_jobs.specs.Shown.{Prints}
-use Rattle.s10_sockets.specs.LoopCalls.{loop_calls, AreMadeInTurn}
+use Rattle.s10_jobs.specs.LoopCalls.{loop_calls, AreMadeInTurn}
 use Rattle.s10_host.specs.declared.loop_resources.LoopResources.{LoopResources}
 use Rattle.s10_host.specs.LoopRun.{LoopLink, IsLoopStep, IsNewLoop, AreLoopResources, IsLoopRun}
 use Rattle.s10_host.specs.LoopRun.{loop_terms, localhost}

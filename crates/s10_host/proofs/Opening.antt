@@ -1,9 +1,9 @@
 -- What a book says of the connection that it was created in or opened from, and of the files that
 -- it is closed in.
-use Rattle.std.proofs.Common.{◌≡◌, ◌≢◌, ◌≤◌, ◌∙◌, ap, refl, sym, subst, arith, List, ◌++◌}
-use Rattle.std.proofs.Common.{append-nil, ℕ, false, Option, Some, None, Result, Ok, Err, length, length-append}
+use Rattle.std.proofs.Common.{◌≡◌, ◌≤◌, ◌∙◌, ap, sym, subst, arith, List, ◌++◌}
+use Rattle.std.proofs.Common.{append-nil, Option, Some, None, Result, Ok, Err, length, length-append}
 use Rattle.std.proofs.lemmas.List.{nil_from_length}
-use Rattle.std.specs.Prelude.{IsTrue, [], IfOk, IfErr, IfSome, OnErr}
+use Rattle.std.specs.Prelude.{IsTrue, [], IfSome, OnErr}
 use Rattle.sqlite_disk.specs.declared.Disk.{Ghosts}
 use Rattle.sqlite_disk.specs.declared.Files.{Files}
 use Rattle.sqlite_wal.specs.Recovery.{Image}
@@ -26,27 +26,16 @@ use Rattle.s10_ledger.specs.Ledger.{history_of}
 use Rattle.s10_ledger.specs.Ledger.{committed_of}
 use Rattle.s10_host.specs.Files.{IsFoundIn, WhereClean, IsEmptyBook, IsFoundBook, Copies}
 use Rattle.s10_host.specs.Files.{ClosesInto, LeavesClean}
-use Rattle.s10_host.specs.Closing.{IsClosedAs, Turns}
-use Rattle.s10_lines.specs.declared.write_fault.WriteFault.{WriteFault}
-use Rattle.s10_link.specs.UdpLink.{BoundLink}
-use Rattle.s10_jobs.specs.declared.job_status.JobStatus.{JobStatus}
-use Rattle.s10_jobs.specs.declared.job_status.JobStatus.TheVariants.{Done}
-use Rattle.s10_jobs.specs.declared.reporting.Report.{Report}
-use Rattle.s10_jobs.specs.Reporting.{report_lines, PrintsReport}
+use Rattle.s10_host.specs.Closing.{IsClosedAs}
 use Rattle.s10_book.specs.declared.book_fault.BookFault.{BookFault}
 use Rattle.s10_book.specs.Book.{Unchanged}
-use Rattle.s10_book.specs.BookFault.{no_faults}
 use Rattle.s10_rows.specs.declared.open_fault.OpenFault.{OpenFault}
 use Rattle.s10_schema.specs.Schema.{IsClosedSchema}
 use Rattle.s10_statements.specs.ConnectionState.{IsClean, IsOpen, WasSound}
-use Rattle.s10_link.specs.declared.peer.Peer.{Peer}
-use Rattle.s10_sockets.specs.Unbound.{IsUnbound}
 use Rattle.s10_host.specs.declared.ledger_job.LedgerJob.{LedgerJob}
 use Rattle.s10_host.specs.declared.ledger_job.LedgerJob.TheVariants.{Create, Serve, Report as ReportOn, Audit}
-use Rattle.s10_host.specs.LedgerJobs.{IsMadeWith, IsOpenedFrom, HasRunOver, IsRefusedLeft}
+use Rattle.s10_host.specs.LedgerJobs.{IsMadeWith, IsOpenedFrom}
 use Rattle.s10_host.specs.LedgerJobs.{IsJobRefusal, IsRefusedBy, IsRefusedAs}
-use Rattle.s10_link.specs.UdpLink.{IsBoundAt}
-use Rattle.s10_statements.specs.Creating.{HasOneOfTheNames, IsCreateRefusal}
 use Rattle.s10_host.specs.Files.{KeepsRefused}
 
 -- A book without pending calls has the history that its tables hold.
@@ -56,130 +45,23 @@ pub none_pending : {S : Type 0} (g : store.Ghosts S) (book : Ledger S) (h : List
 none_pending g book h none is honest = ap (λ (p : List Entry). history_in (state g book.conn).now
     ++ p) none ∙ append-nil _ ∙ is honest
 
--- The ledger of a job, as it was created.
-pub made_for : {S E : Type 0} (g : store.Ghosts S) (terms made : Terms) (was : Held S)
-    (r : Result (Ledger S) E) → made ≡ terms
-    → IfOk r (λ b. (b.terms ≡ made) × (b.faults ≡ no_faults))
-    → IfOk r (λ b. IsClean g b.conn → IsOpen g b.conn)
-    → IfOk r (λ b. IsClean g b.conn → IsOpen g b.conn → IsHonest g b)
-    → IfOk r (λ b. IsHonest g b → history_in (state g b.conn).now ≡ [])
-    → IfOk r (λ b. b.pending ≡ []) → IfOk r (λ b. ¬ HasOneOfTheNames (state g was).now.schema)
-    → IfOk r (λ b. WasSound g was b.conn) → IfOk r (IsMadeWith g terms was)
-made_for g terms made was (Ok book) is new opened honest empty none fresh sound =
-    record {
-      settings = new.0 ∙ is;
-      fresh = fresh;
-      sound = sound;
-      honest = λ clean. honest clean (opened clean);
-      empty = none_pending g book [] none empty;
-      none_pending = none;
-    }
-made_for g terms made was (Err e) is new opened honest empty none fresh sound = tt
-
 -- The ledger of a job, as it was opened.
-pub opened_for : {S E : Type 0} (g : store.Ghosts S) (was : Held S) (r : Result (Ledger S) E)
-    → IfOk r (λ b. IsClean g b.conn → IsOpen g b.conn)
-    → IfOk r (λ b. IsClean g b.conn → IsOpen g b.conn → IsHonest g b)
-    → IfOk r (λ b. IsHonest g b → IsAnyLedger (state g was).now b.terms b.len b.day)
-    → IfOk r (λ b. IsHonest g b → IsClosedSchema (state g was).now.schema → (state g b.conn).now
+pub opened_for : {S : Type 0} (g : store.Ghosts S) (was : Held S) (book : Ledger S)
+    → (IsClean g book.conn → IsOpen g book.conn)
+    → (IsClean g book.conn → IsOpen g book.conn → IsHonest g book)
+    → (IsHonest g book → IsAnyLedger (state g was).now book.terms book.len book.day)
+    → (IsHonest g book → IsClosedSchema (state g was).now.schema → (state g book.conn).now
     ≡ (state g was).now)
-    → IfOk r (λ b. IsHonest g b → history_in (state g b.conn).now ≡ history_in (state g was).now)
-    → IfOk r (λ b. b.pending ≡ []) → IfOk r (λ b. WasSound g was b.conn)
-    → IfOk r (IsOpenedFrom g was)
-opened_for g was (Ok book) opened honest found same history none sound =
-    record {
-      honest = λ clean. honest clean (opened clean);
-      found = found;
-      same = same;
-      history = none_pending g book _ none history;
-      sound = sound;
-      none_pending = none;
-    }
-opened_for g was (Err e) opened honest found same history none sound = tt
-
--- What refuses an opening refuses a job on an existing ledger.
-refused_left : {S : Type 0} (g : store.Ghosts S) (job : LedgerJob) (was left : Held S)
-    (fault : OpenFault) → ((terms : Terms) → job ≢ Create terms)
-    → IsRefusedLeft g was left fault → IsJobRefusal g job was left fault
-refused_left g (Create terms) was left fault none refusal = absurd (none terms refl)
-refused_left g (Serve at count day) was left fault none refusal = refusal
-refused_left g (ReportOn report) was left fault none refusal = refusal
-refused_left g Audit was left fault none refusal = refusal
-
--- What a refusal says of the connection that it returns.
-refused_as : {S B R : Type 0} (g : store.Ghosts S) (job : LedgerJob) (was : Held S)
-    (r : Result B R) (left : R → Held S) (fault : R → OpenFault)
-    → IfErr r (λ e. IsJobRefusal g job was (left e) (fault e))
-    → IfErr r (λ e. WasSound g was (left e)) → IfErr r (λ e. (left e).in_transaction ≡ false)
-    → IfErr r (λ e. IsClean g (left e) → IsOpen g (left e) → (state g (left e)).now
-    ≡ (state g was).now) → IfErr r (λ e. IsRefusedAs g job was (left e) (fault e))
-refused_as g job was (Ok book) left fault refusal sound idle kept = tt
-refused_as g job was (Err e) left fault refusal sound idle kept =
-    record { refusal = refusal; sound = sound; idle = idle; kept = kept }
-
-pub refused_create : {S B R : Type 0} (g : store.Ghosts S) (terms : Terms) (was : Held S)
-    (r : Result B R) (left : R → Held S) (fault : R → OpenFault)
-    → IfErr r (λ e. IsCreateRefusal (state g was).now.schema (fault e))
-    → IfErr r (λ e. WasSound g was (left e)) → IfErr r (λ e. (left e).in_transaction ≡ false)
-    → IfErr r (λ e. IsClean g (left e) → IsOpen g (left e) → (state g (left e)).now
-    ≡ (state g was).now) → IfErr r (λ e. IsRefusedAs g (Create terms) was (left e) (fault e))
-refused_create g terms was r left fault refusal sound idle kept =
-    refused_as g (Create terms) was r left fault refusal sound idle kept
-
-refused_for_any : {S B R : Type 0} (g : store.Ghosts S) (job : LedgerJob) (was : Held S)
-    (r : Result B R) (left : R → Held S) (fault : R → OpenFault)
-    → ((terms : Terms) → job ≢ Create terms)
-    → IfErr r (λ e. IsRefusedLeft g was (left e) (fault e))
-    → IfErr r (λ e. IsJobRefusal g job was (left e) (fault e))
-refused_for_any g job was (Ok book) left fault none refusal = tt
-refused_for_any g job was (Err e) left fault none refusal =
-    refused_left g job was (left e) (fault e) none refusal
-
-pub refused_for : {S B R : Type 0} (g : store.Ghosts S) (job : LedgerJob) (was : Held S)
-    (r : Result B R) (left : R → Held S) (fault : R → OpenFault)
-    → ((terms : Terms) → job ≢ Create terms)
-    → IfErr r (λ e. IsRefusedLeft g was (left e) (fault e))
-    → IfErr r (λ e. WasSound g was (left e)) → IfErr r (λ e. (left e).in_transaction ≡ false)
-    → IfErr r (λ e. IsClean g (left e) → IsOpen g (left e) → (state g (left e)).now
-    ≡ (state g was).now) → IfErr r (λ e. IsRefusedAs g job was (left e) (fault e))
-refused_for g job was r left fault none refusal sound idle kept =
-    refused_as g job was r left fault (refused_for_any g job was r left fault none refusal) sound
-    idle kept
-
--- What a job did, by its ledger before and after and by how that was closed.
-pub worked_with : {S C : Type 0} (g : store.Ghosts S) (gives : C → Option ℕ → C → Type 0)
-    (job : LedgerJob) (first last : C) (was : Held S) (old new : Option (List ℕ)) (done : Result JobStatus WriteFault) (link : Option BoundLink)
-    (book after : Ledger S) (closed : Held S) (kept : Result (Unit {0}) BookFault)
-    → job ≢ Audit → ((terms : Terms) → job ≡ Create terms → IsMadeWith g terms was book)
-    → (((terms : Terms) → job ≢ Create terms) → IsOpenedFrom g was book)
-    → ((terms : Terms) → job ≡ Create terms → (done ≡ Ok Done) × (link ≡ None) × (after ≡ book)
-    × (new ≡ old))
-    → ((at : Peer) (count : ℕ) (day : Option ℕ) → job ≡ Serve at count day
-    → (link ≡ None → IsUnbound book after old new done)
-    × IfSome link (λ l. IsBoundAt at l.at
-    × Turns g gives day first last count book after old new done l))
-    → ((report : Report) → job ≡ ReportOn report → (link ≡ None)
-    × Unchanged (λ (b : Ledger S). history_of g b) (λ (b : Ledger S). committed_of g b)
-    (λ (b : Ledger S). b.terms) (IsHonest g) (IsOverCleanDisk g) (MayFind g) book after
-    × (IsHonest g after
-    → IfOk done (PrintsReport book.faults after.faults old new
-    (report_lines report (history_of g book) book.terms))))
-    → IsClosedAs g after closed kept
-    → HasRunOver g gives job first last was old new done link closed kept
-worked_with g gives (Create terms) first last was old new done link book after closed kept other made opened left served
-    reported closes =
-    let (is, none, same, still) = left terms refl in
-    (after, subst (IsMadeWith g terms was) (sym same) (made terms refl), closes, is, still, none)
-worked_with g gives (Serve at count day) first last was old new done link book after closed kept other made opened left
-    served reported closes =
-    let (unbound, turns) = served at count day refl in
-    (book, opened (λ terms is. absurd cc), after, closes, unbound, turns)
-worked_with g gives (ReportOn report) first last was old new done link book after closed kept other made opened left
-    served reported closes =
-    let (none, unchanged, written) = reported report refl in
-    (book, opened (λ terms is. absurd cc), after, closes, unchanged, written, none)
-worked_with g gives Audit first last was old new done link book after closed kept other made opened left
-    served reported closes = absurd (other refl)
+    → (IsHonest g book → history_in (state g book.conn).now ≡ history_in (state g was).now)
+    → book.pending ≡ [] → WasSound g was book.conn → IsOpenedFrom g was book
+opened_for g was book opened honest found same history none sound = record {
+  honest = λ clean. honest clean (opened clean);
+  found = found;
+  same = same;
+  history = none_pending g book _ none history;
+  sound = sound;
+  none_pending = none;
+}
 
 -- Two facts of a link that may be there.
 pub bound_served : {L : Type 0} (P Q : L → Type 0) (link : Option L) → IfSome link P

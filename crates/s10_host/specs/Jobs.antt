@@ -33,7 +33,7 @@ use Rattle.s10_jobs.specs.declared.reporting.Report.TheVariants.{Ranges, Issues}
 use Rattle.s10_host.specs.Audited.{HasFound, HoldsAudited, audit_line, audit_status}
 use Rattle.s10_jobs.specs.Reporting.{report_lines, PrintsReport}
 use Rattle.s10_jobs.specs.Days.{IsTaken}
-use Rattle.s10_sockets.specs.Questioning.{IsAsked, IsUnasked}
+use Rattle.s10_jobs.specs.Questioning.{IsAsked, IsUnasked}
 use Rattle.s10_host.specs.declared.loop_resources.LoopResources.{LoopResources}
 use Rattle.s10_host.specs.Closing.{Turns}
 use Rattle.s10_host.specs.LoopRun.{HasRunLoop}

@@ -1,12 +1,9 @@
 -- Defines what a job does with a ledger, from its creation or opening to its end, over any
 -- connection and over files.
-use denote.RattleType.{RattleType}
 use Rattle.std.specs.Prelude.{◌≡◌, ◌⊎◌, ℕ, false, List, [], Option, None, Result, Ok, IfOk, IfSome}
 use Rattle.std.specs.Io.KnownBytes.{Appends}
 use Rattle.sqlite_disk.specs.declared.Disk as disk
 use Rattle.sqlite_disk.specs.declared.Files.{Files}
-use Rattle.sqlite_disk.specs.declared.start.Start as start
-use Rattle.sqlite_wal.specs.Files.{image_at}
 use Rattle.sqlite_store.specs.declared.store.FileStore.{FileStore}
 use Rattle.sqlite_trees.specs.declared.store.Store.{Ghosts}
 use Rattle.sqlite.specs.Files.{over_files}
@@ -29,13 +26,12 @@ use Rattle.s10_ledger.specs.Refusals.{IsOpeningRefusal}
 use Rattle.s10_jobs.specs.declared.job_status.JobStatus.{JobStatus}
 use Rattle.s10_jobs.specs.declared.job_status.JobStatus.TheVariants.{Done, Failed}
 use Rattle.s10_jobs.specs.Reporting.{report_lines, PrintsReport}
-use Rattle.s10_sockets.specs.Unbound.{IsUnbound}
+use Rattle.s10_jobs.specs.Unbound.{IsUnbound}
 use Rattle.s10_host.specs.declared.ledger_job.LedgerJob.{LedgerJob}
 use Rattle.s10_host.specs.declared.ledger_job.LedgerJob.TheVariants.{Create, Serve, Report, Audit}
 use Rattle.s10_host.specs.Closing.{IsClosedAs, Turns}
-use Rattle.s10_host.specs.Files.{FileConnection, ClosedFiles, IsFoundIn, Copies, IsFileFault}
-use Rattle.s10_host.specs.Files.{IsAbsenceOr, KeepsRefused}
-use Rattle.s10_host.specs.Jobs.{ledger_line, FailsByLedger, FailsByClosing, EndsAs}
+use Rattle.s10_host.specs.Files.{Copies, KeepsRefused}
+use Rattle.s10_host.specs.Jobs.{ledger_line, FailsByClosing, EndsAs}
 
 module _ {S : Type 0} (g : Ghosts S) where
   -- A ledger that was created with these settings, without calls. The connection showed none of its
@@ -71,8 +67,8 @@ module _ {S : Type 0} (g : Ghosts S) where
       × IfSome link (λ l. IsBoundAt at l.at
       × Turns g gives day first last count opened served old new done l)
 
-  -- What a job other than an audit did over a connection, the days that it took, what it printed, the link and the
-  -- connection that it returned, and whether all calls are committed.
+  -- What a job other than an audit did over a connection, the days that it took, what it printed, the
+  -- link and the connection that it returned, and whether all calls are committed.
   abbrev pub HasRunOver : {C : Type 0} → (C → Option ℕ → C → Type 0) → LedgerJob → C → C → Held S
       → Option (List ℕ) → Option (List ℕ) → Result JobStatus WriteFault → Option BoundLink → Held S
       → Result (Unit {0}) BookFault → Type 0
@@ -154,15 +150,3 @@ module _ {D : Type 0} {g : disk.Ghosts D} where
   EndsOver gives job first last was old new result files link =
       IsWorkedOver gives job first last was old new result files link
       ⊎ IsRefusedOver job was old new result files link
-
-module _ (S : RattleType) (first : start.Ghosts S.Denot) where
-  -- How a job over files ended: the files were opened for it, or could not be opened and the line
-  -- says why.
-  abbrev pub EndsIn : {C : Type 0} → (C → Option ℕ → C → Type 0) → LedgerJob → C → C
-      → Option (List ℕ) → Option (List ℕ) → Result JobStatus WriteFault
-      → Option (ClosedFiles S first) → Option BoundLink → Type 0
-  EndsIn gives job begun ended old new result files link =
-      ((was : FileConnection S first) × IsFoundIn (image_at first) was
-      × EndsOver gives job begun ended was old new result files link)
-      ⊎ (IfOk result (FailsByLedger (IsAbsenceOr IsFileFault) old new) × (files ≡ None)
-      × (link ≡ None))

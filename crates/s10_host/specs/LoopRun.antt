@@ -21,7 +21,7 @@ use Rattle.s10_jobs.specs.declared.job_status.JobStatus.{JobStatus}
 use Rattle.s10_jobs.specs.declared.job_status.JobStatus.TheVariants.{Failed}
 use Rattle.s10_jobs.specs.Shown.{Prints}
 use Rattle.s10_jobs.specs.Words.{open_fault_words}
-use Rattle.s10_sockets.specs.LoopCalls.{loop_calls, AreMadeInTurn}
+use Rattle.s10_jobs.specs.LoopCalls.{loop_calls, AreMadeInTurn}
 use Rattle.s10_host.specs.declared.loop_resources.LoopResources.{LoopResources}
 use Rattle.s10_host.specs.Files.{IsFileFault}
 

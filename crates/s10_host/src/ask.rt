@@ -5,8 +5,7 @@ ghost use Rattle.s10_host.specs.Jobs.{HasAsked};
 
 use crate::job_end::JobEnd;
 use crate::job_resources::JobResources;
-use s10_jobs::{Question, fail_by_link, write_refusal};
-use s10_sockets::{ask_question, bind_client, eprint_failure};
+use s10_jobs::{Question, ask_question, bind_client, eprint_failure, fail_by_link, write_refusal};
 use std::io::Write;
 
 /// Asks a question over a socket of its own. A text that cannot be read is refused before a socket

@@ -1,19 +1,17 @@
 //! Creates a ledger in a file.
 
-ghost use Rattle.std.specs.Prelude.{◌≡◌, ◌↔◌, codes, Ok, None, IfOk, IsTrue};
+ghost use Rattle.std.specs.Prelude.{◌≡◌, ◌↔◌, codes, Ok, IfOk, IsTrue};
 ghost use Rattle.std.specs.Io.KnownBytes.{Appends};
 ghost use Rattle.s10_host.specs.JobResources.{files_in};
-ghost use Rattle.s10_host.specs.Jobs.{HasCreated, ledger_line};
+ghost use Rattle.s10_host.specs.Jobs.{HasCreated};
 
 use crate::files::{ClosedFiles, connect_to_new, find_or_create};
 use crate::job_end::JobEnd;
-use crate::job_resources::JobResources;
 use crate::ledger_file::LedgerFile;
 use crate::ledger_job::LedgerJob;
-use crate::on_file::run_and_close_file;
+use crate::on_file::{not_connected, run_on_file};
 use s10_history::Settings;
-use s10_jobs::{Days, JobStatus, fail_by_ledger};
-use s10_ledger::OpenFault;
+use s10_jobs::{Days, JobStatus};
 use s10_lines::{WriteFault, write_text};
 use sqlite::Start;
 use std::io::Write;
@@ -51,9 +49,7 @@ fn create_in<S: Start, D: Days, W: Write>(
     match connect_to_new(rt, file, start) {
         Ok(connection) => {
             let job = LedgerJob::Create(settings);
-            let JobEnd { done, resources } = run_and_close_file(
-                rt, file, connection, job, days, out,
-            );
+            let JobEnd { done, resources } = run_on_file(rt, file, connection, job, days, out);
             if is_done(&done) {
                 return JobEnd {
                     done: write_created(out),
@@ -63,18 +59,6 @@ fn create_in<S: Start, D: Days, W: Write>(
             JobEnd { done, resources }
         }
         Err(fault) => not_connected(fault, out),
-    }
-}
-
-// Reports why the file cannot be created or opened.
-fn not_connected<F, W: Write>(fault: OpenFault, out: &mut W) -> JobEnd<F>
-    ensures done { IfOk result.done (λ status. (status ≡ JobStatus.Failed)
-        × Appends (W.contents out.old) (W.contents out.new) (ledger_line fault)) }
-    ensures nothing { files_in result.resources ≡ None }
-{
-    JobEnd {
-        done: fail_by_ledger(fault, out),
-        resources: JobResources::Nothing,
     }
 }
 

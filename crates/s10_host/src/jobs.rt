@@ -4,13 +4,11 @@ ghost use Rattle.s10_host.specs.JobResources.{files_in, link_in, looped_in};
 ghost use Rattle.s10_host.specs.Jobs.{HasEnded};
 
 use crate::ask::run_question;
+use crate::audit_file::run_audit_on_file;
 use crate::create::run_create;
 use crate::files::ClosedFiles;
 use crate::job_end::JobEnd;
-use crate::ledger_file::LedgerFile;
-use crate::ledger_job::LedgerJob;
 use crate::looping::run_loop_on;
-use crate::on_file::run_on_file;
 use crate::report::run_report;
 use crate::serve::run_serve;
 use s10_jobs::{Days, Job};
@@ -48,10 +46,7 @@ pub fn run_job<S: Start, D: Days, W: Write>(
             is_of_issues,
             day,
         } => run_report(rt, *ledger, *is_of_issues, *day, start, days, out),
-        Job::Audit { ledger } => {
-            let file = LedgerFile::find(rt, *ledger);
-            run_on_file(rt, &file, LedgerJob::Audit, start, days, out)
-        }
+        Job::Audit { ledger } => run_audit_on_file(rt, *ledger, start, days, out),
         Job::Loop { day } => run_loop_on(rt, *day, days, out),
     }
 }

@@ -3,7 +3,7 @@
 
 mod ask;
 mod audit;
-mod closed_job;
+mod audit_file;
 mod create;
 mod files;
 mod job_end;

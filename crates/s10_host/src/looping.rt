@@ -8,7 +8,7 @@ ghost use Rattle.s10_link.specs.UdpLink.{BoundLink, IsBoundAt};
 ghost use Rattle.s10_link.specs.Link.{LeadsTo};
 ghost use Rattle.s10_link.specs.Trace.{new_trace};
 ghost use Rattle.s10_jobs.specs.Shown.{Prints};
-ghost use Rattle.s10_sockets.specs.LoopCalls.{loop_calls, AreMadeInTurn};
+ghost use Rattle.s10_jobs.specs.LoopCalls.{loop_calls, AreMadeInTurn};
 ghost use Rattle.s10_host.specs.JobResources.{looped_in};
 ghost use Rattle.s10_host.specs.Jobs.{IsRunOn};
 ghost use Rattle.s10_host.specs.LoopRun.{IsLoopRun, IsLoopFailure, localhost};
@@ -19,11 +19,12 @@ use crate::loop_resources::LoopResources;
 use s10_book::Book;
 use s10_ends::{NearLink, Server};
 use s10_history::Settings;
-use s10_jobs::{Days, JobStatus, fail_by_clock, fail_by_ledger, fail_by_link, next_day};
+use s10_jobs::{
+    Days, JobStatus, bind_link, fail_by_clock, fail_by_ledger, fail_by_link, make_calls, next_day,
+};
 use s10_ledger::{ClosedBook, SqlBook};
 use s10_lines::WriteFault;
 use s10_link::{LinkFault, Peer, UdpLink};
-use s10_sockets::{bind_link, make_calls};
 use std::io::Write;
 use std::net::Net;
 

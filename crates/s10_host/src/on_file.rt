@@ -7,11 +7,10 @@ ghost use Rattle.s10_rows.specs.declared.open_fault.OpenFault.{OpenFault};
 ghost use Rattle.s10_host.specs.Audited.{HasFound, KeepsAudited, audit_line, audit_status};
 ghost use Rattle.s10_host.specs.Files.{LeavesClean, AreFilesOf};
 ghost use Rattle.s10_host.specs.JobResources.{files_in, link_in};
-ghost use Rattle.s10_host.specs.Jobs.{ledger_line, EndsAs, HasAudited};
-ghost use Rattle.s10_host.specs.LedgerJobs.{EndsOver, EndsIn};
+ghost use Rattle.s10_host.specs.Jobs.{ledger_line, EndsAs};
+ghost use Rattle.s10_host.specs.LedgerJobs.{EndsOver};
 
-use crate::closed_job::ClosedJob;
-use crate::files::{ClosedFiles, checkpoint_and_close, close_refused, connect_to_ledger};
+use crate::files::{checkpoint_and_close, close_refused};
 use crate::job_end::JobEnd;
 use crate::job_resources::{JobResources, resources_of};
 use crate::ledger_file::LedgerFile;
@@ -21,42 +20,18 @@ use crate::progress::Progress;
 use crate::worked::Worked;
 use s10_book::BookFault;
 use s10_jobs::{Days, JobStatus, fail_by_ledger};
-use s10_ledger::{OpenFault, Refused};
+use s10_ledger::{ClosedBook, OpenFault, Refused};
 use s10_lines::WriteFault;
-use sqlite::{Connection, FileStore, Files, Start};
+use sqlite::{Connection, FileStore, Files};
 use sqlite_disk::Disk;
 use std::io::Write;
-
-/// Runs the job over the ledger of an existing file.
-pub(crate) fn run_on_file<S: Start, D: Days, W: Write>(
-    rt: &HostRuntime,
-    file: &LedgerFile<'_>,
-    job: LedgerJob,
-    start: S,
-    days: &mut D,
-    out: &mut W,
-) -> JobEnd<ClosedFiles<S>>
-    ensures worked { job ≢ LedgerJob.Audit → EndsIn S.row S.Start D.gives job days.old days.new
-        (W.contents out.old) (W.contents out.new) result.done (files_in result.resources)
-        (link_in result.resources) }
-    ensures audited { job ≡ LedgerJob.Audit → HasAudited S.row S.Start (W.contents out.old)
-        (W.contents out.new) result.done (files_in result.resources) }
-{
-    match connect_to_ledger(rt, file, start) {
-        Ok(connection) => run_and_close_file(rt, file, connection, job, days, out),
-        Err(fault) => JobEnd {
-            done: fail_by_ledger(fault, out),
-            resources: JobResources::Nothing,
-        },
-    }
-}
 
 /// Runs the job over the ledger of a connection, and closes the ledger whether or not the job
 /// succeeded.
 ///
 /// If the file was refused, removes the log that opening it created. An audit leaves its files as
 /// they are: their last commits may be in the log alone.
-pub(crate) fn run_and_close_file<F: Disk + Drop, D: Days, W: Write>(
+pub(crate) fn run_on_file<F: Disk + Drop, D: Days, W: Write>(
     rt: &HostRuntime,
     file: &LedgerFile<'_>,
     connection: Connection<FileStore<F>>,
@@ -75,29 +50,30 @@ pub(crate) fn run_and_close_file<F: Disk + Drop, D: Days, W: Write>(
         × LeavesClean left files × AreFilesOf left files × KeepsAudited connection left found files }
 {
     let mut progress = Progress::new(rt, file.path);
-    match run_over_store(rt, connection, job, days, &mut progress, out) {
-        Worked::Closed(ended_job) => {
-            let ClosedJob {
-                done,
-                link,
+    let worked = match run_over_store(rt, connection, job, days, &mut progress, out) {
+        Ok(worked) => worked,
+        Err(refusal) => {
+            let Refused { fault, connection } = refusal;
+            progress.eprint_not_created(&job, fault);
+            file.remove_unused_log(rt);
+            let files = close_refused(connection);
+            return JobEnd {
+                done: fail_by_ledger(fault, out),
+                resources: resources_of(files, None),
+            };
+        }
+    };
+    match worked {
+        Worked::Closed { done, link, ledger } => {
+            let ClosedBook {
                 connection,
                 committed,
-            } = ended_job;
+            } = ledger;
             let closed = checkpoint_and_close(rt, file.path, connection);
             let (done, files) = ended(done, committed, closed, out);
             JobEnd {
                 done,
                 resources: resources_of(files, link),
-            }
-        }
-        Worked::Refused(refusal) => {
-            let Refused { fault, connection } = refusal;
-            progress.eprint_not_created(&job, fault);
-            file.remove_unused_log(rt);
-            let files = close_refused(connection);
-            JobEnd {
-                done: fail_by_ledger(fault, out),
-                resources: resources_of(files, None),
             }
         }
         Worked::Audited { done, store } => {
@@ -107,6 +83,18 @@ pub(crate) fn run_and_close_file<F: Disk + Drop, D: Days, W: Write>(
                 resources: JobResources::Files(store.close()),
             }
         }
+    }
+}
+
+/// Reports why a file cannot be created or opened.
+pub(crate) fn not_connected<F, W: Write>(fault: OpenFault, out: &mut W) -> JobEnd<F>
+    ensures done { IfOk result.done (λ status. (status ≡ JobStatus.Failed)
+        × Appends (W.contents out.old) (W.contents out.new) (ledger_line fault)) }
+    ensures nothing { result.resources ≡ JobResources.Nothing }
+{
+    JobEnd {
+        done: fail_by_ledger(fault, out),
+        resources: JobResources::Nothing,
     }
 }
 

@@ -3,12 +3,12 @@
 ghost use Rattle.s10_host.specs.JobResources.{files_in};
 ghost use Rattle.s10_host.specs.Jobs.{HasReported};
 
-use crate::files::ClosedFiles;
+use crate::files::{ClosedFiles, connect_to_ledger};
 use crate::job_end::JobEnd;
 use crate::job_resources::JobResources;
 use crate::ledger_file::LedgerFile;
 use crate::ledger_job::LedgerJob;
-use crate::on_file::run_on_file;
+use crate::on_file::{not_connected, run_on_file};
 use s10_jobs::{Days, Report, fail_by_clock};
 use sqlite::Start;
 use std::io::Write;
@@ -33,5 +33,9 @@ pub(crate) fn run_report<S: Start, D: Days, W: Write>(
         };
     };
     let file = LedgerFile::find(rt, ledger);
-    run_on_file(rt, &file, LedgerJob::Report(report), start, days, out)
+    let job = LedgerJob::Report(report);
+    match connect_to_ledger(rt, &file, start) {
+        Ok(connection) => run_on_file(rt, &file, connection, job, days, out),
+        Err(fault) => not_connected(fault, out),
+    }
 }

@@ -3,12 +3,12 @@
 ghost use Rattle.s10_host.specs.JobResources.{files_in, link_in};
 ghost use Rattle.s10_host.specs.Jobs.{HasServed};
 
-use crate::files::ClosedFiles;
+use crate::files::{ClosedFiles, connect_to_ledger};
 use crate::job_end::JobEnd;
 use crate::job_resources::JobResources;
 use crate::ledger_file::LedgerFile;
 use crate::ledger_job::LedgerJob;
-use crate::on_file::run_on_file;
+use crate::on_file::{not_connected, run_on_file};
 use s10_jobs::{Days, refuse};
 use s10_link::Peer;
 use sqlite::Start;
@@ -38,7 +38,10 @@ pub(crate) fn run_serve<S: Start, D: Days, W: Write>(
     eprint_opening(rt, ledger);
     let job = LedgerJob::Serve { at, count, day };
     let file = LedgerFile::find(rt, ledger);
-    run_on_file(rt, &file, job, start, days, out)
+    match connect_to_ledger(rt, &file, start) {
+        Ok(connection) => run_on_file(rt, &file, connection, job, days, out),
+        Err(fault) => not_connected(fault, out),
+    }
 }
 
 // Opening a large ledger takes a while. The turns go on even if standard error is closed.

@@ -3,3 +3,4 @@ mod HexReading
 mod ReplayedLines
 mod EndedReports
 mod Turning
+mod Looping

@@ -11,3 +11,6 @@ pub mod Questions
 pub mod Reporting
 pub mod Serving
 pub mod Days
+pub mod Unbound
+pub mod Questioning
+pub mod LoopCalls

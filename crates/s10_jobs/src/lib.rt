@@ -1,9 +1,10 @@
 //! Reads, executes and writes what the subcommands ask for. The caller passes the readers, writers,
-//! links and books.
+//! links and books. The jobs that need a socket and no file also bind it.
 #![tactic(auto)]
 
 mod answer_line;
 mod asking;
+mod binding;
 mod body_words;
 mod checking;
 mod clock_days;
@@ -16,15 +17,19 @@ mod job;
 mod job_status;
 mod ledger_fault;
 mod line_reader;
+mod link_failure;
 mod link_fault;
+mod loop_calls;
 mod making;
 mod parts;
 mod question;
+mod questioning;
 mod refusal;
 mod refusals;
 mod replay_fault;
 mod replaying;
 mod reporting;
+mod serving;
 mod showing;
 mod tries;
 mod turn_line;
@@ -33,6 +38,7 @@ mod words;
 
 pub use answer_line::write_answer;
 pub use asking::ask;
+pub use binding::{bind_client, bind_link};
 pub use body_words::BodyWords;
 pub use checking::check;
 pub use clock_days::{ClockDays, today};
@@ -41,14 +47,18 @@ pub use failures::{fail_by_clock, fail_by_ledger, fail_by_link};
 pub use job::Job;
 pub use job_status::JobStatus;
 pub use ledger_fault::write_ledger_fault;
+pub use link_failure::eprint_failure;
 pub use link_fault::write_link_fault;
+pub use loop_calls::make_calls;
 pub use making::make;
 pub use question::Question;
+pub use questioning::ask_question;
 pub use refusal::{Refusal, write_refusal};
 pub use refusals::refuse;
 pub use replay_fault::{ReplayFault, write_replay_fault};
 pub use replaying::{replay, replay_on, run_replay};
 pub use reporting::{Report, write_report};
+pub use serving::serve_at;
 pub use showing::show;
 pub use tries::Tries;
 pub use turn_line::write_turn;

@@ -2,10 +2,9 @@
 
 use s10_book::PlainBook;
 use s10_history::Settings;
-use s10_jobs::{ClockDays, JobStatus};
+use s10_jobs::{ClockDays, JobStatus, serve_at};
 use s10_lines::WriteFault;
 use s10_link::{Peer, UdpLink};
-use s10_sockets::serve_at;
 use std::io::Write;
 use std::net::Net;
 use std::time::Clock;

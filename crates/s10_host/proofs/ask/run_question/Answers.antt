@@ -1,5 +1,5 @@
 use Rattle.s10_link.proofs.Bound.{still_bound}
-use Rattle.s10_sockets.specs.Questioning.{any_address}
+use Rattle.s10_jobs.specs.Questioning.{any_address}
 use Rattle.s10_host.proofs.Answering.{refused_unasked, unbound_unasked, asked_over}
 use Rattle.s10_host.proofs.ask.run_question.Goals as goal
 

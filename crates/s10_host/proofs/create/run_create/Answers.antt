@@ -1,4 +1,5 @@
-use Rattle.std.proofs.Common.{refl}
+use Rattle.std.proofs.Common.{ap, refl}
+use Rattle.s10_host.specs.JobResources.{files_in}
 use Rattle.s10_host.proofs.Ending.{not_connected}
 use Rattle.s10_host.proofs.create.run_create.Goals as goal
 
@@ -10,4 +11,4 @@ returns-in-Err g c =
     not_connected _ g.S.Start c.args.settings c.in-Err.fault (g.W.Write.contents c.args.out.now)
     (g.W.Write.contents c.not_connected.new.out) c.not_connected.result.done
     c.not_connected.result.done _ c.in-Err.ensures.refused c.not_connected.ensures.done refl
-    c.not_connected.ensures.nothing
+    (ap files_in c.not_connected.ensures.nothing)

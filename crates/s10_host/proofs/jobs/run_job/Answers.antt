@@ -27,9 +27,9 @@ returns-in-Report g c =
 
 pub returns-in-Audit : goal.returns-in-Audit
 returns-in-Audit g c =
-    let left = c.run_on_file.result.resources in
+    let left = c.run_audit_on_file.result.resources in
     ended_as _ g.S.Start g.D.Days.gives c.args.job.now _ _ _ _ _ _ _ _ _ (link_in left) _
-    (looped_in left) _ c.in-Audit.is refl refl refl refl (c.run_on_file.ensures.audited refl)
+    (looped_in left) _ c.in-Audit.is refl refl refl refl c.run_audit_on_file.ensures
 
 pub returns-in-Loop : goal.returns-in-Loop
 returns-in-Loop g c =

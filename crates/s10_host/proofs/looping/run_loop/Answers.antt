@@ -7,7 +7,7 @@ use Rattle.s10_ends.specs.Server.{book_of}
 use Rattle.s10_link.specs.UdpLink.{BoundLink, IsBoundAt}
 use Rattle.std.specs.Prelude.{IfOk}
 use Rattle.s10_jobs.specs.Shown.{Prints}
-use Rattle.s10_sockets.specs.LoopCalls.{loop_calls, AreMadeInTurn}
+use Rattle.s10_jobs.specs.LoopCalls.{loop_calls, AreMadeInTurn}
 use Rattle.s10_host.specs.LoopRun.{LoopLink, IsNewLoop, loop_terms, localhost}
 use Rattle.s10_host.proofs.Leaving.{looped_over, none_left}
 use Rattle.s10_host.proofs.MemoryLedger.{is_honest}

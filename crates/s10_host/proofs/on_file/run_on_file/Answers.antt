@@ -1,30 +1,73 @@
-use Rattle.std.proofs.Common.{inl, inr, refl}
-use Rattle.s10_host.specs.Files.{IsFileFault, IsAbsenceOr}
-use Rattle.s10_host.proofs.Ending.{fails_by, audited_in, not_audited}
+use Rattle.std.proofs.Common.{inl, refl}
+use Rattle.s10_host.proofs.Ending.{kept_copied, lost_closing, refused_over}
+use Rattle.s10_host.proofs.Opening.{left_clean}
+use Rattle.s10_host.proofs.Auditing.{keeps_audited}
 use Rattle.s10_host.proofs.on_file.run_on_file.Goals as goal
 
-pub returns-in-Ok-clause-worked : goal.returns-in-Ok-clause-worked
-returns-in-Ok-clause-worked g c other =
-    inl (c.in-Ok.connection, c.in-Ok.ensures.found, c.run_and_close_file.ensures.worked other)
+pub returns-in-Closed-clause-worked : goal.returns-in-Closed-clause-worked
+returns-in-Closed-clause-worked g c other =
+    let job = c.in-Closed in
+    let (_, worked) = c.in-Ok.ensures.worked job.done job.link job.ledger job.is in
+    let connection = job.ledger.connection in
+    let committed = job.ledger.committed in
+    let between = g.W.Write.contents c.run_over_store.new.out in
+    let last = g.W.Write.contents c.ended-done.new.out in
+    rw (c.resources_of-in-Closed.ensures.files, c.resources_of-in-Closed.ensures.link) (inl (record {
+      closed = connection;
+      done = job.done;
+      between = between;
+      committed = committed;
+      worked = worked;
+      kept = kept_copied connection c.checkpoint_and_close-closed.result c.ended-done.result.1
+          committed job.done c.ended-done.result.0 between last
+          c.checkpoint_and_close-closed.ensures.copied c.ended-done.ensures.kept;
+      lost = λ none. lost_closing c.checkpoint_and_close-closed.result job.done
+          c.ended-done.result.0 between last c.checkpoint_and_close-closed.ensures.refused
+          (c.ended-done.ensures.lost none);
+    }))
 
-pub returns-in-Ok-clause-audited : goal.returns-in-Ok-clause-audited
-returns-in-Ok-clause-audited g c is =
-    let (files, there, left, found, counted, written, leaves, of, kept) =
-    c.run_and_close_file.ensures.audited is in
-    audited_in _ g.S.Start c.in-Ok.connection left found _ _ c.run_and_close_file.result.done
-    _ files there c.in-Ok.ensures.found counted written leaves of kept
+pub returns-in-Closed-clause-audited : goal.returns-in-Closed-clause-audited
+returns-in-Closed-clause-audited g c is =
+    let job = c.in-Closed in
+    absurd ((c.in-Ok.ensures.worked job.done job.link job.ledger job.is).0 is)
+
+pub returns-in-Audited-clause-worked : goal.returns-in-Audited-clause-worked
+returns-in-Audited-clause-worked g c other =
+    let job = c.in-Audited in
+    absurd (other (c.in-Ok.ensures.audited job.done job.store job.is).0)
+
+pub returns-in-Audited-clause-audited : goal.returns-in-Audited-clause-audited
+returns-in-Audited-clause-audited g c so =
+    let job = c.in-Audited in
+    let (is, left, found, counted, written, of) = c.in-Ok.ensures.audited job.done job.store job.is in (
+      c.close.result,
+      refl,
+      left,
+      found,
+      counted,
+      written,
+      left_clean left job.store c.close.result of.quiet.clean c.close.ensures,
+      record { left = job.store; same = c.close.ensures; of = of },
+      keeps_audited c.args.connection left found job.store c.close.result
+          g.met.F.Disk.seen_may_stay counted of c.close.ensures,
+    )
+
+pub close_refused-files-requires : goal.close_refused-files-requires
+close_refused-files-requires g c =
+    let (_, refusal, silent) = c.in-Err.ensures.refused in
+    record { idle = refusal.idle }
 
 pub returns-in-Err-clause-worked : goal.returns-in-Err-clause-worked
-returns-in-Err-clause-worked g c other = inr (
-  fails_by (IsAbsenceOr IsFileFault) c.in-Err.fault (g.W.Write.contents c.args.out.now)
-      (g.W.Write.contents c.fail_by_ledger.new.out) c.fail_by_ledger.result
-      c.in-Err.ensures.refused c.fail_by_ledger.ensures,
-  refl,
-  refl,
-)
+returns-in-Err-clause-worked g c other =
+    let (_, refusal, silent) = c.in-Err.ensures.refused in
+    rw (c.resources_of.ensures.files, c.resources_of.ensures.link) (refused_over
+    g.D.Days.gives c.args.job c.args.days.now c.run_over_store.new.days
+    c.args.connection c.in-Err.refusal.connection (g.W.Write.contents c.args.out.now)
+    (g.W.Write.contents c.run_over_store.new.out) (g.W.Write.contents c.fail_by_ledger.new.out)
+    c.in-Err.refusal.fault c.fail_by_ledger.result c.close_refused-files.result refusal silent
+    c.fail_by_ledger.ensures c.close_refused-files.ensures.copied
+    c.close_refused-files.ensures.committed
+    )
 
 pub returns-in-Err-clause-audited : goal.returns-in-Err-clause-audited
-returns-in-Err-clause-audited g c is =
-    not_audited _ g.S.Start c.in-Err.fault (g.W.Write.contents c.args.out.now)
-    (g.W.Write.contents c.fail_by_ledger.new.out) c.fail_by_ledger.result c.fail_by_ledger.result
-    _ c.in-Err.ensures.refused c.fail_by_ledger.ensures refl refl
+returns-in-Err-clause-audited g c is = absurd (c.in-Err.ensures.refused.0 is)

@@ -4,12 +4,15 @@ ghost use Rattle.std.specs.Prelude.{◌≡◌, None, IfSome};
 ghost use Rattle.s10_link.specs.UdpLink.{IsBoundAt};
 ghost use Rattle.s10_link.specs.Trace.{new_trace};
 ghost use Rattle.s10_jobs.specs.Serving.{ServesTurns};
-ghost use Rattle.s10_sockets.specs.Unbound.{IsUnbound};
+ghost use Rattle.s10_jobs.specs.Unbound.{IsUnbound};
 
 use crate::binding::bind_link;
+use crate::days::Days;
+use crate::failures::fail_by_link;
+use crate::job_status::JobStatus;
+use crate::turns::serve_turns;
 use s10_book::{GroupCommit, LastFailure};
 use s10_ends::Server;
-use s10_jobs::{Days, JobStatus, fail_by_link, serve_turns};
 use s10_lines::WriteFault;
 use s10_link::{Peer, UdpLink};
 use std::alloc::Global;

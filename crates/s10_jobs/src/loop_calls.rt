@@ -4,12 +4,13 @@ ghost use Rattle.std.specs.Prelude.{◌≡◌, ◌∷◌, [], IfOk};
 ghost use Rattle.s10_wire.specs.declared.body.Body.TheVariants.{Draw};
 ghost use Rattle.s10_link.specs.Link.{LeadsTo};
 ghost use Rattle.s10_jobs.specs.Shown.{Prints};
-ghost use Rattle.s10_sockets.specs.LoopCalls.{ra, gb, first_of_range, granted_range};
-ghost use Rattle.s10_sockets.specs.LoopCalls.{customer_calls, calls_of, loop_calls, AreMadeInTurn};
+ghost use Rattle.s10_jobs.specs.LoopCalls.{ra, gb, first_of_range, granted_range};
+ghost use Rattle.s10_jobs.specs.LoopCalls.{customer_calls, calls_of, loop_calls, AreMadeInTurn};
 
+use crate::asking::ask;
+use crate::job_status::JobStatus;
 use s10_core::{Country, Id, Serial, Service};
 use s10_ends::Client;
-use s10_jobs::{JobStatus, ask};
 use s10_lines::WriteFault;
 use s10_link::{Link, Peer};
 use s10_wire::Body;

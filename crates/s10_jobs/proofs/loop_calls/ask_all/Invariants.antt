@@ -1,7 +1,7 @@
 use Rattle.std.proofs.Common.{take}
 use Rattle.s10_link.specs.Link.{LeadsTo}
-use Rattle.s10_sockets.proofs.Looping.{HasDone}
-use Rattle.s10_sockets.proofs.loop_calls.ask_all.Given as goal
+use Rattle.s10_jobs.proofs.Looping.{HasDone}
+use Rattle.s10_jobs.proofs.loop_calls.ask_all.Given as goal
 
 -- The calls before this one were done.
 abbrev pub invariant-loop-body : goal.invariant-loop-body

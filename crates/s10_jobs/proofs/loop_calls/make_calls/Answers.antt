@@ -4,9 +4,9 @@ use Rattle.s10_ends.specs.Client.{new_client}
 use Rattle.s10_jobs.specs.declared.job_status.JobStatus.{JobStatus}
 use Rattle.s10_jobs.specs.declared.job_status.JobStatus.TheVariants.{Done}
 use Rattle.s10_jobs.specs.Shown.{Prints}
-use Rattle.s10_sockets.specs.LoopCalls.{customer_calls, calls_of, loop_calls, AreMadeInTurn}
-use Rattle.s10_sockets.proofs.Looping.{all_asked, post_stops}
-use Rattle.s10_sockets.proofs.loop_calls.make_calls.Goals as goal
+use Rattle.s10_jobs.specs.LoopCalls.{customer_calls, calls_of, loop_calls, AreMadeInTurn}
+use Rattle.s10_jobs.proofs.Looping.{all_asked, post_stops}
+use Rattle.s10_jobs.proofs.loop_calls.make_calls.Goals as goal
 
 pub returns-then-ne-clause-asked : goal.returns-then-ne-clause-asked
 returns-then-ne-clause-asked g c =

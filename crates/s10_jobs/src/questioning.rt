@@ -9,8 +9,10 @@ ghost use Rattle.s10_ends.specs.Client.{ClientState, new_client};
 ghost use Rattle.s10_link.specs.Link.{LeadsTo};
 ghost use Rattle.s10_jobs.specs.Asked.{asked_status, asked_line};
 
+use crate::asking::ask;
+use crate::job_status::JobStatus;
+use crate::question::Question;
 use s10_ends::Client;
-use s10_jobs::{JobStatus, Question, ask};
 use s10_lines::WriteFault;
 use s10_link::{Link, Peer};
 use s10_wire::Body;

@@ -18,7 +18,7 @@ use Rattle.s10_jobs.specs.declared.job_status.JobStatus.TheVariants.{Done, Refus
 use Rattle.s10_jobs.specs.declared.job_status.JobStatus.TheVariants.{Failed}
 use Rattle.s10_jobs.specs.Asked.{asked_status, asked_line}
 use Rattle.s10_jobs.specs.Shown.{Prints}
-use Rattle.s10_sockets.specs.LoopCalls.{calls_of, AreMadeInTurn}
+use Rattle.s10_jobs.specs.LoopCalls.{calls_of, AreMadeInTurn}
 
 abbrev pub after_call : ClientState → Body → ClientState
 after_call c body = without_pending (after_submit c body)

@@ -1,6 +1,6 @@
 use Rattle.std.proofs.Common.{rules}
 use Rattle.s10_link.proofs.Bound.{still_bound}
-use Rattle.s10_sockets.proofs.serving.serve_at.Goals as goal
+use Rattle.s10_jobs.proofs.serving.serve_at.Goals as goal
 
 pub returns-clause-served : goal.returns-clause-served
 returns-clause-served g c = search rules

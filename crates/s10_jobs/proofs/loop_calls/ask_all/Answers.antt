@@ -4,8 +4,8 @@ use Rattle.std.proofs.lemmas.List.{take_more}
 use Rattle.s10_wire.specs.declared.body.Body.{Body}
 use Rattle.s10_link.specs.Link.LeadsTo.{none}
 use Rattle.s10_link.proofs.Led.{led_on}
-use Rattle.s10_sockets.proofs.Looping.{one_done, last_done}
-use Rattle.s10_sockets.proofs.loop_calls.ask_all.Goals as goal
+use Rattle.s10_jobs.proofs.Looping.{one_done, last_done}
+use Rattle.s10_jobs.proofs.loop_calls.ask_all.Goals as goal
 
 pub loop-body-preserved : goal.loop-body-preserved
 loop-body-preserved g c =

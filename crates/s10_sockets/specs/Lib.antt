@@ -1,3 +1,0 @@
-pub mod Questioning
-pub mod Unbound
-pub mod LoopCalls
