@@ -1,19 +1,17 @@
 //! The program `s10`: its words, its standard input and output, and its exit status.
 #![tactic(auto)]
 
-ghost use Rattle.std.specs.Prelude.{◌≡◌, ◌≢◌, ℕ, List, Option, Some, None, map, IfOk, IfSome};
+ghost use Rattle.std.specs.Prelude.{◌≡◌, ◌≢◌, ℕ, List, Option, Some, None, map, IfSome};
 ghost use Rattle.std.specs.Prelude.{MatchOption};
 ghost use Rattle.std.specs.IoError.{error_kind};
 ghost use Rattle.std.specs.declared.io.ErrorKind.TheVariants.{InvalidData};
 ghost use Rattle.s10_jobs.specs.declared.job_status.JobStatus.TheVariants.{CommandLine, Failed};
-ghost use Rattle.clap.specs.Words.{Text};
-ghost use Rattle.s10_cli.specs.Jobs.{AsksInWords};
 ghost use Rattle.s10_host.specs.JobResources.{files_in, link_in, looped_in};
 ghost use Rattle.s10.specs.Ends.{RunsWords, RunsJob};
 
 use s10_cli::{LineEnd, flush_buffer, run_buffered};
 use s10_host::{ClosedFiles, JobEnd, JobResources, run_job};
-use s10_jobs::{ClockDays, Days, Job, JobStatus};
+use s10_jobs::{ClockDays, Days, JobStatus};
 use s10_lines::WriteFault;
 use sqlite::{Start, Unknown};
 use std::convert::AsStr;
@@ -74,69 +72,46 @@ fn run<S: Start, D: Days, W: AsStr, I: Read + Drop, O: Write + Drop>(
         (O.contents ended.output) ended.status (files_in used) (link_in used) (looped_in used))) }
     ensures failed { result.1 ≡ None → result.0 ≡ 3 }
 {
-    match run_streams(rt, words, input, output, start, days) {
-        Ok(ended) => (ended.status, Some(ended)),
-        Err(error) => (print_failure(rt, &error) as u8, None),
-    }
-}
-
-fn run_streams<S: Start, D: Days, W: AsStr, I: Read + Drop, O: Write + Drop>(
-    rt: &HostRuntime,
-    words: &[W],
-    input: I,
-    output: O,
-    start: S,
-    days: &mut D,
-) -> io::Result<Ended<S, O>>
-    ensures { IfOk result (λ ended. MatchOption ended.resources
-        (RunsWords (map W.text words.now) (I.remaining input) (O.contents output)
-        (O.contents ended.output) (Some ended.status))
-        (λ used. (between : Option (List ℕ)) × RunsWords (map W.text words.now) (I.remaining input)
-        (O.contents output) between None
-        × RunsJob S.row S.Start D.gives (map W.text words.now) days.old days.new between
-        (O.contents ended.output) ended.status (files_in used) (link_in used) (looped_in used))) }
-{
-    let (ended, output) = run_buffered(rt, words, input, output)?;
-    match ended {
-        LineEnd::Ended(status) => Ok(Ended {
-            status,
-            output,
-            resources: None,
-        }),
-        LineEnd::Asks(job) => {
-            let Some(job) = &job else {
-                return Err(io::Error::from(ErrorKind::OutOfMemory));
-            };
-            let (status, output, resources) = run_asked(rt, job, start, days, output)?;
-            Ok(Ended {
+    let (line, output) = match run_buffered(rt, words, input, output) {
+        Ok(ran) => ran,
+        Err(error) => return failed(rt, &error),
+    };
+    let job = match line {
+        LineEnd::Ended(status) => {
+            let ended = Ended {
                 status,
                 output,
-                resources: Some(resources),
-            })
+                resources: None,
+            };
+            return (status, Some(ended));
         }
+        LineEnd::Asks(Some(job)) => job,
+        LineEnd::Asks(None) => return failed(rt, &io::Error::from(ErrorKind::OutOfMemory)),
+    };
+    let mut output = match BufWriter::new(rt.alloc(), output) {
+        Ok(output) => output,
+        Err(error) => return failed(rt, &error),
+    };
+    let JobEnd { done, resources } = run_job(rt, &job, start, days, &mut output);
+    match (flush_buffer(output), done) {
+        (Ok(output), Ok(status)) => {
+            let ended = Ended {
+                status: status as u8,
+                output,
+                resources: Some(resources),
+            };
+            (ended.status, Some(ended))
+        }
+        (Ok(_), Err(WriteFault)) => failed(rt, &io::Error::from(ErrorKind::WriteZero)),
+        (Err(error), _) => failed(rt, &error),
     }
 }
 
-// Runs the job that a command line asks for. Returns the exit status, the output and the resources.
-fn run_asked<S: Start, D: Days, O: Write + Drop>(
-    rt: &HostRuntime,
-    job: &Job<'_>,
-    start: S,
-    days: &mut D,
-    output: O,
-) -> io::Result<(u8, O, JobResources<ClosedFiles<S>>)>
-    ensures { (words : List Text) → AsksInWords words job.now
-        → IfOk result (λ ended. RunsJob S.row S.Start D.gives words days.old days.new
-        (O.contents output) (O.contents ended.1) ended.0 (files_in ended.2) (link_in ended.2)
-        (looped_in ended.2)) }
+// Prints why a command line has no end. Returns the status.
+fn failed<T>(rt: &HostRuntime, error: &io::Error) -> (u8, Option<T>)
+    ensures { (result.0 ≡ 3) × (result.1 ≡ None) }
 {
-    let mut output = BufWriter::new(rt.alloc(), output)?;
-    let JobEnd { done, resources } = run_job(rt, job, start, days, &mut output);
-    let output = flush_buffer(output)?;
-    match done {
-        Ok(status) => Ok((status as u8, output, resources)),
-        Err(WriteFault) => Err(io::Error::from(ErrorKind::WriteZero)),
-    }
+    (print_failure(rt, error) as u8, None)
 }
 
 // Prints why the words of the command line cannot be read, and returns the status.
