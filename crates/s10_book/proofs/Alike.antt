@@ -50,8 +50,7 @@ issued_alike (i ∷ is) (j ∷ js) x alike =
 
 pub find_same : {A : Type 0} (p q : A → Bool) (xs : List A) → ((x : A) → p x ≡ q x)
     → find p xs ≡ find q xs
-find_same p q [] same = refl
-find_same p q (x ∷ xs) same = rw (same x, find_same p q xs same) refl
+find_same p q xs same = λ i. find (λ x. same x i) xs
 
 earliest_alike : (r : Range) (is js : List Issuance) → Alike is js → serial_issued_earliest r is
     ≡ serial_issued_earliest r js

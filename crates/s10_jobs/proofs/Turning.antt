@@ -1,5 +1,5 @@
 -- Lemmas about the turns of a server, one more batch at a time.
-use Rattle.std.proofs.Common.{◌≡◌, ℕ, ◌+◌, ◌<◌, ◌≤◌, List, [], ◌∷◌, ◌++◌, length, Option, Some}
+use Rattle.std.proofs.Common.{◌≡◌, ◌≢◌, ℕ, ◌+◌, ◌<◌, ◌≤◌, List, [], ◌∷◌, ◌++◌, length, Option, Some}
 use Rattle.std.proofs.Common.{None, Result, Ok, Err, refl, sym, ap, subst, ◌∙◌, arith}
 use Rattle.std.proofs.Common.{length-append, map, inl, inr}
 use Rattle.std.proofs.lemmas.List.{map-append}
@@ -17,6 +17,7 @@ use Rattle.s10_history.specs.declared.entry.Entry.{Entry}
 use Rattle.s10_history.specs.Settings.{Terms}
 use Rattle.s10_book.specs.declared.faults.Faults.{Faults}
 use Rattle.s10_book.specs.Rules.{IsLegal}
+use Rattle.s10_ends.specs.Turn.{Turn}
 use Rattle.s10_jobs.specs.declared.job_status.JobStatus.{JobStatus}
 use Rattle.s10_jobs.specs.declared.job_status.JobStatus.TheVariants.{Done, Refused, CommandLine, Failed}
 use Rattle.s10_jobs.specs.TurnLines.{turn_line}

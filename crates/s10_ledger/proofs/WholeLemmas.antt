@@ -1,5 +1,5 @@
 -- Consistent rows stand for the history that they keep.
-use Rattle.std.proofs.Common.{◌≡◌, ℕ, zero, suc, ◌+◌, ◌<◌, ◌≤◌, List, [], ◌∷◌, ◌++◌, length, map}
+use Rattle.std.proofs.Common.{◌≡◌, ℕ, zero, suc, ◌+◌, ◌≤◌, List, [], ◌∷◌, ◌++◌, length, map}
 use Rattle.std.proofs.Common.{get_or, take, Some, Result, Ok, Err, IfOk, refl, sym, ap, subst, ◌∙◌}
 use Rattle.std.proofs.Common.{inr, arith}
 use Rattle.std.specs.Prelude.{slice_get, All}
@@ -37,7 +37,7 @@ use Rattle.s10_ledger.specs.Ledger.{IsLedger, history_in}
 use Rattle.s10_ledger.proofs.HistoryLemmas.{history_is, calls_history}
 use Rattle.s10_replay.proofs.Replayed.{kept_length}
 use Rattle.s10_replay.proofs.Compared.{right_calls}
-use Rattle.std.proofs.lemmas.Option.{slice_get-get_or}
+use Rattle.std.proofs.lemmas.Option.{slice_get-get_or, slice_get_within}
 
 -- A right row is that of the call that it stands for.
 pub right_row : (t : Terms) (before : List Entry) (row : StoredCall) → IsRightRow t before row
@@ -60,15 +60,12 @@ rows_from n (row ∷ rows) each =
     (omega arith)) in
     ap (λ r. r ∷ call_rows_from (n + 1) (kept_of rows)) (sym here) ∙ ap (λ l. row ∷ l) more
 
-within : {A : Type 0} (xs : List A) (k : ℕ) (x : A) → slice_get xs k ≡ Some x → k < length xs
-within = Rattle.std.proofs.lemmas.Option.slice_get_within
-
 -- Right rows are those of the calls that they keep.
 pub right_rows : (t : Terms) (rows : List StoredCall) → AreRight t rows → call_rows (kept_of rows)
     ≡ rows
 right_rows t rows right = rows_from 1 rows (λ k row is.
     let before : length (kept_of (take k rows)) + 1 ≡ 1 + k =
-    omega (arith, kept_length rows k (within rows k row is)) in
+    omega (arith, kept_length rows k (slice_get_within rows k row is)) in
     right_row t (kept_of (take k rows)) row (right k row is) ∙ ap (λ n. call_row n (entry_of row))
     before)
 

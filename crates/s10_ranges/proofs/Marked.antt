@@ -1,6 +1,6 @@
 -- The mark that is held for a range of the history.
-use Rattle.std.proofs.Common.{◌≡◌, ◌∙◌, ℕ, zero, suc, ◌+◌, ◌-◌, ◌<◌, List, [], ◌∷◌, map, Some}
-use Rattle.std.proofs.Common.{length, get_or, refl, ap, ap₂, subst, arith}
+use Rattle.std.proofs.Common.{◌≡◌, ◌∙◌, ◌+◌, ◌-◌, ◌<◌, List, Some}
+use Rattle.std.proofs.Common.{get_or, ap, ap₂, subst, arith}
 use Rattle.std.specs.Prelude.{Contains, slice_get}
 use Rattle.s10_history.specs.declared.entry.Entry.{Entry}
 use Rattle.s10_history.specs.declared.range.Range.{Range}
@@ -12,12 +12,8 @@ use Rattle.s10_ranges.specs.declared.ranges.Ranges.{Ranges}
 use Rattle.s10_ranges.specs.Mirror.{Mirrors, MirrorsAt}
 use Rattle.s10_ranges.specs.Laps.{mark_of}
 use Rattle.s10_ranges.specs.Sound.{AreSound}
-
-get_map : {X : Type 0} (f : Range → X) (rs : List Range) (k : ℕ) (d : Range) → k < length rs
-    → slice_get (map f rs) k ≡ Some (f (get_or rs k d))
-get_map f [] k d lt = absurd (omega arith)
-get_map f (x ∷ xs) zero d lt = refl
-get_map f (x ∷ xs) (suc k) d lt = get_map f xs k d (omega arith)
+use Rattle.std.proofs.lemmas.Option.{slice_get-map, slice_get-get_or}
+use Rattle.std.specs.Option.{option_map}
 
 abbrev pub made_part : (r : Ranges) (h : List Entry) → Mirrors r h
     → MirrorsAt (ranges_of h) (issues_of h) r
@@ -45,7 +41,8 @@ mark_at_issues r rs is range sound m there =
     let num = numbered r rs is range sound m there in
     let f : Range → Mark = mark_of is in
     let place : range.num - 1 ≡ there.0 = omega (arith, num) in
-    ap₂ slice_get m.marks place ∙ get_map f rs there.0 range there.1
+    ap₂ slice_get m.marks place ∙ slice_get-map f rs there.0
+    ∙ ap (option_map f) (slice_get-get_or rs there.0 range there.1)
     ∙ ap (λ (x : Range). Some (f x)) there.2
 
 -- The mark of a range of a history is the history's.

@@ -14,8 +14,7 @@ use Rattle.s10_rows.specs.Tables.{HaveSameRows}
 
 pub same_images : {A B : Type 0} (f g : A → B) → ((x : A) → f x ≡ g x) → (xs : List A)
     → map f xs ≡ map g xs
-same_images f g same [] = refl
-same_images f g same (x ∷ xs) = ap₂ ◌∷◌ (same x) (same_images f g same xs)
+same_images f g same xs = λ i. map (λ x. same x i) xs
 
 pub map_twice : {A B C : Type 0} (g : B → C) (f : A → B) (xs : List A) → map g (map f xs)
     ≡ map (λ x. g (f x)) xs

@@ -25,6 +25,7 @@ use Rattle.s10_schema.specs.Schema.{closed_first, others_after_closed, is_own_tr
 use Rattle.s10_schema.specs.Schema.{refer_apart, refer_apart_from_closed, are_apart}
 use Rattle.s10_schema.specs.Schema.{are_apart_from_closed, index_apart}
 use Rattle.std.proofs.lemmas.Bool.{and_parts, not-true, or_parts}
+use Rattle.sqlite_keyed.proofs.ListLemmas.{all_weaker, all_from_test}
 
 pub is_ledger-prop : (s : Schema) (a b : IsLedgerSchema s) → a ≡ b
 is_ledger-prop s a b =
@@ -83,9 +84,7 @@ no_work_by depth tree moves child ref (Some deed) (Some key) e = rw e refl
 -- What a test shows of each element if all pass it, and what two tests show.
 each_of : {X : Type 0} (p : X → Bool) (P : X → Type 0) → ((x : X) → p x ≡ true → P x)
     → (xs : List X) → list_all p xs ≡ true → AllByRecursion P xs
-each_of p P says [] h = tt
-each_of p P says (x ∷ xs) h = let b = and_parts (p x) (list_all p xs) h in
-    (says x b.0, each_of p P says xs b.1)
+each_of p P says xs h = all_weaker (λ x. p x ≡ true) P says xs (all_from_test p xs h)
 
 each_of_both : {X : Type 0} (p q : X → Bool) (P : X → Type 0) → ((x : X) → p x ≡ true → q x ≡ true
     → P x) → (xs : List X) → list_all p xs ≡ true → list_all q xs ≡ true → AllByRecursion P xs

@@ -1,6 +1,6 @@
 -- Which rows a write removes from a tree.
-use Rattle.std.proofs.Common.{◌≡◌, ℤ, List, [], ◌∷◌, filter, Bool, true, false, not}
-use Rattle.std.proofs.Common.{cond, refl, ap, ◌∙◌, arith, int_eq, is_eq}
+use Rattle.std.proofs.Common.{◌≡◌, ℤ, List, [], ◌∷◌, filter, Bool, true, not}
+use Rattle.std.proofs.Common.{refl, ap, ◌∙◌, arith, int_eq, is_eq}
 use Rattle.std.proofs.lemmas.Int.{ints}
 use Rattle.std.specs.List.{AllByRecursion}
 use Rattle.std.specs.List.Sorted.{IsPermutation}
@@ -12,6 +12,7 @@ use Rattle.sqlite_trees.specs.Tree.{rowid, has_rowid}
 use Rattle.sqlite_keyed.proofs.ListLemmas.{along_permutation}
 use Rattle.sqlite_trees.specs.View.{is_int}
 use Rattle.s10_statements.specs.Shown.{HasIntegerRowid}
+use Rattle.std.proofs.lemmas.List.Elements.{recursion_from_All, filter_passes}
 
 pub all_moved : {X : Type 0} (P : X → Type 0) (xs ys : List X) → IsPermutation xs ys
     → AllByRecursion P xs → AllByRecursion P ys
@@ -43,13 +44,7 @@ has_id num n r e = ap (λ v. is_eq (value_cmp v (Int num))) e ∙ ap is_eq (valu
 -- What a filter keeps passes its test.
 pub passing : {X : Type 0} (p : X → Bool) (xs : List X)
     → AllByRecursion (λ x. p x ≡ true) (filter p xs)
-passing {X} p [] = tt
-passing {X} p (x ∷ xs) = go (p x) refl (passing p xs)
-  where
-    go : (b : Bool) → p x ≡ b → AllByRecursion (λ y. p y ≡ true) (filter p xs)
-        → AllByRecursion (λ y. p y ≡ true) (cond b (x ∷ filter p xs) (filter p xs))
-    go true e more = (e, more)
-    go false e more = more
+passing p xs = recursion_from_All (λ x. p x ≡ true) (filter p xs) (filter_passes p xs)
 
 -- The row has another rowid.
 abbrev pub stays : ℤ → Row → Bool

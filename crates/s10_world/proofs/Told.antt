@@ -1,11 +1,11 @@
 -- Lemmas about what a sound world says of the calls of its clients.
-use Rattle.std.proofs.Common.{◌≡◌, ◌≢◌, ◌∙◌, ◌⊎◌, inl, inr, ℕ, suc, ◌<◌, Bool, true, false, cond}
+use Rattle.std.proofs.Common.{◌≡◌, ◌≢◌, ◌∙◌, ◌⊎◌, inl, inr, ℕ, ◌<◌, Bool, true, false, cond}
 use Rattle.std.proofs.Common.{eqb, List, [], ◌∷◌, get_or, take, Option, Some, None, refl, sym, ap}
-use Rattle.std.proofs.Common.{subst, arith}
-use Rattle.std.specs.Prelude.{Contains, IsTrue, slice_get, find}
+use Rattle.std.proofs.Common.{arith}
+use Rattle.std.specs.Prelude.{Contains, IsTrue, slice_get}
 use Rattle.std.proofs.lemmas.Bool.{cases_order, and_from, and_parts, eq-eqb, eqb-true}
 use Rattle.std.proofs.lemmas.List.Elements.{All-weaker}
-use Rattle.std.proofs.lemmas.Option.{none-some, same_Some, slice_get_within, slice_get-get_or}
+use Rattle.std.proofs.lemmas.Option.{same_Some, slice_get_within, slice_get-get_or}
 use Rattle.std.proofs.lemmas.Option.{get_or_from_slice_get}
 use Rattle.s10_core.specs.declared.id.Id.{Id}
 use Rattle.s10_wire.specs.declared.body.Body.{Body}
@@ -31,31 +31,19 @@ use Rattle.s10_world.specs.Agreement.{HasOutcome, HasOther, IsOutcomeIn, Agrees}
 use Rattle.s10_world.specs.Agreement.{IsExecutedAtMostOnce, RevealsExecution, IsAtMostOnce}
 use Rattle.s10_world.specs.Sound.{GivesIn, IsSoundWorld}
 use Rattle.s10_ends.proofs.Equal.{same_request_or_not}
-
-chosen : {A : Type 0} (b : Bool) (x r : A) (o : Option A) → cond b (Some x) o ≡ Some r
-    → ((b ≡ true) × (x ≡ r)) ⊎ (o ≡ Some r)
-chosen true x r o is = inl (refl, same_Some x r is)
-chosen false x r o is = inr is
-
--- An element that is found is in the list, and satisfies the test.
-found : {A : Type 0} (p : A → Bool) (xs : List A) (r : A) → find p xs ≡ Some r → (p r ≡ true)
-    × Contains xs r
-found p [] r is = absurd (none-some r is)
-found p (x ∷ xs) r is = elim (chosen (p x) x r (find p xs) is) [
-  | inl here ↦ (subst (λ y. p y ≡ true) here.1 here.0, (0, omega arith, here.1))
-  | inr later ↦ let rest = found p xs r later in
-      (rest.0, (suc rest.1.0, omega (arith, rest.1.1), rest.1.2))
-]
+use Rattle.s10_history.proofs.Numbering.{found_passes, Contains-find}
 
 outcome_at : (h : List Entry) (q : Request) (o : Outcome) (kept : Option Entry)
     → find_entry h q.customer q.number ≡ kept → GivesOutcome kept q o
     → HasOutcome h q o ⊎ ((o ≡ NumberReused) × HasOther h q)
 outcome_at h q o None is gives = absurd gives
 outcome_at h q o (Some e) is gives =
-    let here = found (has_key q.customer q.number) h e is in
+    let key = has_key q.customer q.number in
+    let passes = found_passes key h e is in
+    let there = Contains-find key h e is in
     elim (same_request_or_not e.request q) [
-      | inl same ↦ inl (e, here.1, same, sym (gives.0 same))
-      | inr other ↦ inr (gives.1 other, (e, here.1, here.0, other))
+      | inl same ↦ inl (e, there, same, sym (gives.0 same))
+      | inr other ↦ inr (gives.1 other, (e, there, passes, other))
     ]
 
 outcome_in : (h : List Entry) (q : Request) (o : Outcome) → GivesIn h q o → HasOutcome h q o
