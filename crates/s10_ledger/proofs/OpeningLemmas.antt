@@ -136,11 +136,11 @@ found_ledger form db book it = subst (λ h. IsAnyLedger db book.settings (length
     any Whole has = inl (whole_ledger db it.tables book.settings has it.whole)
     any Old has = inr (old_ledger db it.tables book.settings has it.whole)
 
--- What is true of the settings and the calls of a book is true of those that it hands out.
-pub handed_out : (P : Terms → List Entry → Type 0) (book : IndexedBook) (t : Terms)
+-- What is true of the settings and the calls of a book is true of those that it returns.
+pub returned_same : (P : Terms → List Entry → Type 0) (book : IndexedBook) (t : Terms)
     (index : CallIndex) → t ≡ book.settings → Indexes index book.index.entries.items
     → P book.settings book.index.entries.items → P t index.entries.items
-handed_out P book t index same is holds = subst (λ (u : Terms). P u index.entries.items) (sym same)
+returned_same P book t index same is holds = subst (λ (u : Terms). P u index.entries.items) (sym same)
     (subst (λ (h : List Entry). P book.settings h) (sym is.calls) holds)
 
 -- Lack of memory and a fault of the store are refusals of any database.

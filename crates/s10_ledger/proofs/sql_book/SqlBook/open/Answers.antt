@@ -7,7 +7,7 @@ use Rattle.s10_index.specs.CallIndex.{Indexes}
 use Rattle.s10_ledger.specs.Ledger.{IsLedger, IsAnyLedger, history_in}
 use Rattle.sqlite.specs.Held.{state}
 use Rattle.s10_ledger.proofs.BookLemmas.{closed_is}
-use Rattle.s10_ledger.proofs.OpeningLemmas.{handed_out}
+use Rattle.s10_ledger.proofs.OpeningLemmas.{returned_same}
 use Rattle.s10_ledger.proofs.RefusalLemmas.{ledger_opens}
 use Rattle.s10_ledger.proofs.sql_book.SqlBook.open.Goals as goal
 
@@ -31,7 +31,7 @@ returns-in-Ok-clause-completed g c honest = closed_is (state g.S.Store c.over.re
 
 pub returns-in-Ok-clause-honest : goal.returns-in-Ok-clause-honest
 returns-in-Ok-clause-honest g c = rw c.over.ensures (λ clean opened.
-    let it = handed_out (λ t h. IsLedger (state g.S.Store c.ledger_in.new.conn).now t (length h)
+    let it = returned_same (λ t h. IsLedger (state g.S.Store c.ledger_in.new.conn).now t (length h)
     (day_of h)) c.in-Ok.book c.settings-settings.result c.into_index.result
     (c.settings-settings.ensures tt) c.into_index.ensures.indexed
     (c.in-Ok.ensures.ledger clean opened) in
@@ -46,7 +46,7 @@ returns-in-Ok-clause-honest g c = rw c.over.ensures (λ clean opened.
 
 pub returns-in-Ok-clause-found : goal.returns-in-Ok-clause-found
 returns-in-Ok-clause-found g c =
-    rw c.over.ensures (λ honest. handed_out (λ t h. IsAnyLedger (state g.S.Store c.args.conn).now t
+    rw c.over.ensures (λ honest. returned_same (λ t h. IsAnyLedger (state g.S.Store c.args.conn).now t
     (length h) (day_of h)) c.in-Ok.book c.settings-settings.result c.into_index.result
     (c.settings-settings.ensures tt) c.into_index.ensures.indexed
     (c.in-Ok.ensures.found honest.clean honest.is_open))
@@ -59,7 +59,7 @@ pub over-requires : goal.over-requires
 over-requires g c = record {
   few = c.into_index.ensures.few;
   settled = c.ledger_in.ensures.settled;
-  ledger = λ clean opened. handed_out (λ t h. IsLedger (state g.S.Store c.ledger_in.new.conn).now t
+  ledger = λ clean opened. returned_same (λ t h. IsLedger (state g.S.Store c.ledger_in.new.conn).now t
       (length h) (day_of h)) c.in-Ok.book c.settings-settings.result c.into_index.result
       (c.settings-settings.ensures tt) c.into_index.ensures.indexed
       (c.in-Ok.ensures.ledger clean opened);
