@@ -21,3 +21,4 @@ pub mod StepLemmas
 pub mod TransactionLemmas
 pub mod CallLemmas
 pub mod FaultLemmas
+pub mod LaterMarkLemmas

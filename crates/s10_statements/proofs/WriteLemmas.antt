@@ -13,7 +13,7 @@ use Rattle.s10_rows.specs.RowWrites.{with_serial, with_serials}
 use Rattle.s10_statements.specs.Shown.{HasTables}
 use Rattle.s10_rows.proofs.Writing.{ranges_then, serials_then}
 
-ranges_more : (ws : List RangeWrite) (i : ℕ) (d : RangeWrite) (rows : List RangeRow) → i < length ws
+pub ranges_more : (ws : List RangeWrite) (i : ℕ) (d : RangeWrite) (rows : List RangeRow) → i < length ws
     → with_ranges (take (i + 1) ws) rows ≡ with_range (get_or ws i d) (with_ranges (take i ws) rows)
 ranges_more ws i d rows within = ap (λ (l : List RangeWrite). with_ranges l rows)
     (take_more ws i d within) ∙ ranges_then (take i ws) (get_or ws i d) rows
@@ -39,15 +39,6 @@ with_ranges_in ws tables = record tables { ranges = with_ranges ws tables.ranges
 
 abbrev pub with_serials_in : List SerialWrite → Tables → Tables
 with_serials_in ws tables = record tables { serials = with_serials ws tables.serials }
-
-pub ranges_one : (db : Database) (ws : List RangeWrite) (i : ℕ) (d : RangeWrite) (tables : Tables)
-    → i < length ws
-    → HasTables db
-    (record tables { ranges = with_range (get_or ws i d) (with_ranges (take i ws) tables.ranges) })
-    → HasTables db (with_ranges_in (take (i + 1) ws) tables)
-ranges_one db ws i d tables within held =
-    subst (λ (rows : List RangeRow). HasTables db (record tables { ranges = rows }))
-    (sym (ranges_more ws i d tables.ranges within)) held
 
 pub serials_one : (db : Database) (ws : List SerialWrite) (i : ℕ) (d : SerialWrite)
     (tables : Tables) → i < length ws

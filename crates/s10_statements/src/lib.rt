@@ -4,6 +4,7 @@
 
 mod creating;
 mod from_row;
+mod later_marks;
 mod migrating;
 mod observer;
 mod reads;

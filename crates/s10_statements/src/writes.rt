@@ -12,7 +12,9 @@ ghost use Rattle.s10_statements.specs.Steps.{IsStep, EditsTables, EditsFittingTa
 ghost use Rattle.s10_rows.specs.RowWrites.{FindAtMostOne, is_at, row_of, with_range, with_ranges};
 ghost use Rattle.s10_rows.specs.RowWrites.{with_serial, with_serials};
 ghost use Rattle.s10_rows.specs.CallWrite.{AreWritten, with_call};
+ghost use Rattle.s10_statements.specs.LaterMarks.{range_writes, HasTablesBut};
 
+use crate::later_marks::is_set_again;
 use s10_history::Entry;
 use s10_rows::{CallWrite, ClosedRow, RangeRow, RangeWrite, SerialRow, SerialWrite};
 use sqlite::{Alter, Connection, Error, Transaction, params};
@@ -165,18 +167,41 @@ fn apply_serial_write<S: Alter>(
     }
 }
 
-// Applies the writes in their order.
+// Applies the write, unless the rest of its call's writes or a later call sets its mark again.
+fn apply_unless_set_again<S: Alter>(
+    tx: &mut Transaction<'_, S>,
+    write: &RangeWrite,
+    rest: &[RangeWrite],
+    later: &[CallWrite],
+) -> Result<(), Error>
+    ensures { let to_come : List RangeWrite = rest.now ++ range_writes later.now in
+        IsStep S.Store tx.old.conn tx.new.conn result ((tables : Tables)
+        → HasTablesBut (write.now ∷ to_come) (state S.Store tx.old.conn.now).now tables
+        → HasTablesBut to_come (state S.Store tx.new.conn.now).now (record tables {
+          ranges = with_range write.now tables.ranges;
+        })) }
+{
+    if is_set_again(write, rest, later) {
+        return Ok(());
+    }
+    apply_range_write(tx, write)
+}
+
+// Applies the writes in their order, without the marks that they or the later calls set again.
 fn apply_range_writes<S: Alter>(
     tx: &mut Transaction<'_, S>,
     ranges: &[RangeWrite],
+    later: &[CallWrite],
 ) -> Result<(), Error>
-    ensures { IsStep S.Store tx.old.conn tx.new.conn result
-        (EditsTables S.Store tx.old.conn tx.new.conn (λ tables. record tables {
+    ensures { let to_come : List RangeWrite = range_writes later.now in
+        IsStep S.Store tx.old.conn tx.new.conn result ((tables : Tables)
+        → HasTablesBut (ranges.now ++ to_come) (state S.Store tx.old.conn.now).now tables
+        → HasTablesBut to_come (state S.Store tx.new.conn.now).now (record tables {
           ranges = with_ranges ranges.now tables.ranges;
         })) }
 {
-    for write in ranges {
-        apply_range_write(tx, write)?;
+    for (place, write) in ranges.iter().enumerate() {
+        apply_unless_set_again(tx, write, &ranges[place + 1..], later)?;
     }
     Ok(())
 }
@@ -230,30 +255,34 @@ fn insert_if_closed<S: Alter>(
     }
 }
 
-// Inserts the row of the call, and writes its rows of the other tables.
+// Inserts the row of the call, and writes its rows of the other tables, without the marks that the
+// later calls set again.
 fn insert_call_and_writes<S: Alter>(
     tx: &mut Transaction<'_, S>,
     write: &CallWrite,
+    later: &[CallWrite],
 ) -> Result<(), Error>
-    ensures { IsStep S.Store tx.old.conn tx.new.conn result (IsOpen S.Store tx.old.conn.now
-        × EditsFittingTables S.Store tx.old.conn tx.new.conn
-        (λ tables. FindAtMostOne write.now.serials.items tables.serials) (with_call write.now)) }
+    ensures { let to_come : List RangeWrite = range_writes later.now in
+        IsStep S.Store tx.old.conn tx.new.conn result (IsOpen S.Store tx.old.conn.now
+        × ((tables : Tables) → FindAtMostOne write.now.serials.items tables.serials
+        → HasTablesBut (write.now.ranges.items ++ to_come) (state S.Store tx.old.conn.now).now tables
+        → HasTablesBut to_come (state S.Store tx.new.conn.now).now (with_call write.now tables))) }
 {
     insert_call(tx, write.arrival, &write.entry, write.reply.bytes())?;
-    apply_range_writes(tx, &write.ranges)?;
+    apply_range_writes(tx, &write.ranges, later)?;
     apply_serial_writes(tx, &write.serials)?;
     insert_if_closed(tx, write.arrival, &write.entry)
 }
 
-// Writes the calls in their order.
+// Writes the calls in their order, each mark once.
 fn insert_calls<S: Alter>(tx: &mut Transaction<'_, S>, writes: &[CallWrite]) -> Result<(), Error>
     ensures { IsStep S.Store tx.old.conn tx.new.conn result ((writes.now ≢ [] → IsOpen S.Store tx.old.conn.now)
         × ((before after : Tables) → AreWritten writes.now before after
         → HasTables (state S.Store tx.old.conn.now).now before
         → HasTables (state S.Store tx.new.conn.now).now after)) }
 {
-    for write in writes {
-        insert_call_and_writes(tx, write)?;
+    for (place, write) in writes.iter().enumerate() {
+        insert_call_and_writes(tx, write, &writes[place + 1..])?;
     }
     Ok(())
 }
