@@ -101,21 +101,21 @@ impl Link for ScriptLink {
             return Err(LinkFault::Spent);
         }
         let Some(receipt) = self.receipts.get(self.next_receipt).copied() else {
-            self.trace = self.trace.after_call();
+            self.trace.count_call();
             return Ok(None);
         };
         self.next_receipt += 1;
         match receipt {
             Receipt::Deliver(from, packet) => {
-                self.trace = self.trace.after_datagram(from, packet);
+                self.trace.count_datagram(from, &packet);
                 Ok(Some((from, packet)))
             }
             Receipt::Nothing => {
-                self.trace = self.trace.after_call();
+                self.trace.count_call();
                 Ok(None)
             }
             Receipt::Fail => {
-                self.trace = self.trace.after_failure();
+                self.trace.count_failure();
                 Err(LinkFault::Receive)
             }
         }
@@ -141,10 +141,10 @@ impl Link for ScriptLink {
         self.next_send += 1;
         if passes {
             self.log.push_reserved((to, *frame));
-            self.trace = self.trace.after_send(to, frame);
+            self.trace.count_send(to, frame);
             Ok(())
         } else {
-            self.trace = self.trace.after_failure();
+            self.trace.count_failure();
             Err(LinkFault::Send)
         }
     }

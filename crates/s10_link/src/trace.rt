@@ -45,63 +45,51 @@ impl Trace {
         }
     }
 
-    /// Returns the trace after one more call, in which nothing arrived.
-    pub fn after_call(&self) -> Trace
-        requires counted { IsCounted self.now }
-        requires room { self.now.calls < 2 ^ 64 - 1 }
-        ensures trace { result ≡ after_call self.now }
-        ensures counted { IsCounted result }
+    /// Counts a call in which nothing arrived.
+    pub fn count_call(&mut self)
+        requires counted { IsCounted self.old }
+        requires room { self.old.calls < 2 ^ 64 - 1 }
+        ensures trace { self.new ≡ after_call self.old }
+        ensures counted { IsCounted self.new }
     {
-        Trace {
-            calls: self.calls + 1,
-            ..*self
-        }
+        self.calls += 1;
     }
 
-    /// Returns the trace after one more call, which failed.
-    pub fn after_failure(&self) -> Trace
-        requires counted { IsCounted self.now }
-        requires room { self.now.calls < 2 ^ 64 - 1 }
-        ensures trace { result ≡ after_failure self.now }
-        ensures counted { IsCounted result }
+    /// Counts a call that failed.
+    pub fn count_failure(&mut self)
+        requires counted { IsCounted self.old }
+        requires room { self.old.calls < 2 ^ 64 - 1 }
+        ensures trace { self.new ≡ after_failure self.old }
+        ensures counted { IsCounted self.new }
     {
-        Trace {
-            calls: self.calls + 1,
-            failures: self.failures + 1,
-            ..*self
-        }
+        self.calls += 1;
+        self.failures += 1;
     }
 
-    /// Returns the trace after one more call, in which a datagram was received.
-    pub fn after_datagram(&self, from: Peer, packet: Packet) -> Trace
-        requires counted { IsCounted self.now }
-        requires room { self.now.calls < 2 ^ 64 - 1 }
-        ensures trace { result ≡ after_datagram self.now (from, packet) }
-        ensures counted { IsCounted result }
+    /// Counts a call in which a datagram was received.
+    pub fn count_datagram(&mut self, from: Peer, packet: &Packet)
+        requires counted { IsCounted self.old }
+        requires room { self.old.calls < 2 ^ 64 - 1 }
+        ensures trace { self.new ≡ after_datagram self.old (from, packet.now) }
+        ensures counted { IsCounted self.new }
     {
-        Trace {
-            calls: self.calls + 1,
-            received: self.received + 1,
-            taken: Some((from, packet)),
-            ..*self
-        }
+        self.calls += 1;
+        self.received += 1;
+        self.taken = Some((from, *packet));
     }
 
-    /// Returns the trace after one more call, in which a frame was sent.
-    pub fn after_send(&self, to: Peer, frame: &Frame) -> Trace
-        requires counted { IsCounted self.now }
-        requires room { self.now.calls < 2 ^ 64 - 1 }
-        ensures trace { IsAfterFrame self.now result (to, frame.now) }
-        ensures counted { IsCounted result }
+    /// Counts a call in which a frame was sent.
+    pub fn count_send(&mut self, to: Peer, frame: &Frame)
+        requires counted { IsCounted self.old }
+        requires room { self.old.calls < 2 ^ 64 - 1 }
+        ensures trace { IsAfterFrame self.old self.new (to, frame.now) }
+        ensures counted { IsCounted self.new }
     {
         let is_again = self.is_given(to, frame);
-        Trace {
-            calls: self.calls + 1,
-            sends: self.sends + 1,
-            alike: if is_again { self.alike + 1 } else { 1 },
-            given: Some((to, *frame)),
-            ..*self
-        }
+        self.calls += 1;
+        self.sends += 1;
+        self.alike = if is_again { self.alike + 1 } else { 1 };
+        self.given = Some((to, *frame));
     }
 
     // Returns whether the last send was of this frame to this peer.

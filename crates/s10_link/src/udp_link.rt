@@ -127,16 +127,16 @@ impl UdpLink {
     {
         match came {
             Ok(Some((from, packet))) => {
-                self.trace = self.trace.after_datagram(from, packet);
+                self.trace.count_datagram(from, &packet);
                 Ok(Some((from, packet)))
             }
             Ok(None) => {
-                self.trace = self.trace.after_call();
+                self.trace.count_call();
                 Ok(None)
             }
             Err(cause) => {
                 self.failure = Some(cause);
-                self.trace = self.trace.after_failure();
+                self.trace.count_failure();
                 Err(LinkFault::Receive)
             }
         }
@@ -201,12 +201,12 @@ impl Link for UdpLink {
         let bytes = frame.bytes();
         match self.socket.send_to(bytes, SocketAddr::V4(address(to))) {
             Ok(len) if len == bytes.len() => {
-                self.trace = self.trace.after_send(to, frame);
+                self.trace.count_send(to, frame);
                 Ok(())
             }
             sent => {
                 self.failure = sent.err();
-                self.trace = self.trace.after_failure();
+                self.trace.count_failure();
                 Err(LinkFault::Send)
             }
         }

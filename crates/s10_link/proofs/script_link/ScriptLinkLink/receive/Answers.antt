@@ -15,77 +15,77 @@ returns-then-self-clause-script c =
       log = refl;
     })
 
-pub after_call-self-inside-requires-clause-counted :
-    goal.after_call-self-inside-requires-clause-counted
-after_call-self-inside-requires-clause-counted c = c.self.invariant.0
+pub count_call-requires-clause-counted :
+    goal.count_call-requires-clause-counted
+count_call-requires-clause-counted c = c.self.invariant.0
 
-pub after_call-self-inside-requires-clause-room : goal.after_call-self-inside-requires-clause-room
-after_call-self-inside-requires-clause-room c = omega arith
+pub count_call-requires-clause-room : goal.count_call-requires-clause-room
+count_call-requires-clause-room c = omega arith
 
 pub invariant_of-self : goal.invariant_of-self
 invariant_of-self c = (
-  c.after_call-self-inside.ensures.counted,
+  c.count_call.ensures.counted,
   c.self.invariant.1,
   c.self.invariant.2,
 )
 
 pub returns-in_default-clause-trace : goal.returns-in_default-clause-trace
-returns-in_default-clause-trace c = rw (← c.self.view_is) c.after_call-self-inside.ensures.trace
+returns-in_default-clause-trace c = rw (← c.self.view_is) c.count_call.ensures.trace
 
-pub after_datagram-self-inside-requires-clause-counted :
-    goal.after_datagram-self-inside-requires-clause-counted
-after_datagram-self-inside-requires-clause-counted c = c.self.invariant.0
+pub count_datagram-requires-clause-counted :
+    goal.count_datagram-requires-clause-counted
+count_datagram-requires-clause-counted c = c.self.invariant.0
 
-pub after_datagram-self-inside-requires-clause-room :
-    goal.after_datagram-self-inside-requires-clause-room
-after_datagram-self-inside-requires-clause-room c = omega arith
+pub count_datagram-requires-clause-room :
+    goal.count_datagram-requires-clause-room
+count_datagram-requires-clause-room c = omega arith
 
 pub invariant_of-self-in-Deliver : goal.invariant_of-self-in-Deliver
 invariant_of-self-in-Deliver c = (
-  c.after_datagram-self-inside.ensures.counted,
+  c.count_datagram.ensures.counted,
   c.self.invariant.1,
   c.self.invariant.2,
 )
 
 pub returns-in-Deliver-clause-trace : goal.returns-in-Deliver-clause-trace
-returns-in-Deliver-clause-trace c = rw (← c.self.view_is) c.after_datagram-self-inside.ensures.trace
+returns-in-Deliver-clause-trace c = rw (← c.self.view_is) c.count_datagram.ensures.trace
 
-pub after_call-self-inside-requires-in-Nothing-clause-counted :
-    goal.after_call-self-inside-requires-in-Nothing-clause-counted
-after_call-self-inside-requires-in-Nothing-clause-counted c = c.self.invariant.0
+pub count_call-requires-in-Nothing-clause-counted :
+    goal.count_call-requires-in-Nothing-clause-counted
+count_call-requires-in-Nothing-clause-counted c = c.self.invariant.0
 
-pub after_call-self-inside-requires-in-Nothing-clause-room :
-    goal.after_call-self-inside-requires-in-Nothing-clause-room
-after_call-self-inside-requires-in-Nothing-clause-room c = omega arith
+pub count_call-requires-in-Nothing-clause-room :
+    goal.count_call-requires-in-Nothing-clause-room
+count_call-requires-in-Nothing-clause-room c = omega arith
 
 pub invariant_of-self-in-Nothing : goal.invariant_of-self-in-Nothing
 invariant_of-self-in-Nothing c = (
-  c.after_call-self-inside-in-Nothing.ensures.counted,
+  c.count_call-in-Nothing.ensures.counted,
   c.self.invariant.1,
   c.self.invariant.2,
 )
 
 pub returns-in-Nothing-clause-trace : goal.returns-in-Nothing-clause-trace
 returns-in-Nothing-clause-trace c =
-    rw (← c.self.view_is) c.after_call-self-inside-in-Nothing.ensures.trace
+    rw (← c.self.view_is) c.count_call-in-Nothing.ensures.trace
 
-pub after_failure-self-inside-requires-clause-counted :
-    goal.after_failure-self-inside-requires-clause-counted
-after_failure-self-inside-requires-clause-counted c = c.self.invariant.0
+pub count_failure-requires-clause-counted :
+    goal.count_failure-requires-clause-counted
+count_failure-requires-clause-counted c = c.self.invariant.0
 
-pub after_failure-self-inside-requires-clause-room :
-    goal.after_failure-self-inside-requires-clause-room
-after_failure-self-inside-requires-clause-room c = omega arith
+pub count_failure-requires-clause-room :
+    goal.count_failure-requires-clause-room
+count_failure-requires-clause-room c = omega arith
 
 pub invariant_of-self-in-Fail : goal.invariant_of-self-in-Fail
 invariant_of-self-in-Fail c = (
-  c.after_failure-self-inside.ensures.counted,
+  c.count_failure.ensures.counted,
   c.self.invariant.1,
   c.self.invariant.2,
 )
 
 pub returns-in-Fail-clause-trace : goal.returns-in-Fail-clause-trace
-returns-in-Fail-clause-trace c = rw (← c.self.view_is) c.after_failure-self-inside.ensures.trace
+returns-in-Fail-clause-trace c = rw (← c.self.view_is) c.count_failure.ensures.trace
 
 pub returns-in-Deliver-clause-script : goal.returns-in-Deliver-clause-script
 returns-in-Deliver-clause-script c =

@@ -68,38 +68,38 @@ pub push_reserved-requires : goal.push_reserved-requires
 push_reserved-requires c = room_left _ _ _ _ c.self.invariant.2
     (below _ _ _ c.self.invariant.1 c.if-self-len.false c.len.ensures)
 
-pub after_send-self-inside-requires-clause-counted :
-    goal.after_send-self-inside-requires-clause-counted
-after_send-self-inside-requires-clause-counted c = c.self.invariant.0
+pub count_send-requires-clause-counted :
+    goal.count_send-requires-clause-counted
+count_send-requires-clause-counted c = c.self.invariant.0
 
-pub after_send-self-inside-requires-clause-room : goal.after_send-self-inside-requires-clause-room
-after_send-self-inside-requires-clause-room c = omega arith
+pub count_send-requires-clause-room : goal.count_send-requires-clause-room
+count_send-requires-clause-room c = omega arith
 
 pub invariant_of-self : goal.invariant_of-self
 invariant_of-self c = (
-  c.after_send-self-inside.ensures.counted,
+  c.count_send.ensures.counted,
   one_more _ _ (below _ _ _ c.self.invariant.1 c.if-self-len.false c.len.ensures),
   room_sent _ _ _ _ _ _ c.self.invariant.2 c.push_reserved.ensures.len
       c.push_reserved.ensures.capacity,
 )
 
-pub after_failure-self-inside-requires-clause-counted :
-    goal.after_failure-self-inside-requires-clause-counted
-after_failure-self-inside-requires-clause-counted c = c.self.invariant.0
+pub count_failure-requires-clause-counted :
+    goal.count_failure-requires-clause-counted
+count_failure-requires-clause-counted c = c.self.invariant.0
 
-pub after_failure-self-inside-requires-clause-room :
-    goal.after_failure-self-inside-requires-clause-room
-after_failure-self-inside-requires-clause-room c = omega arith
+pub count_failure-requires-clause-room :
+    goal.count_failure-requires-clause-room
+count_failure-requires-clause-room c = omega arith
 
 pub invariant_of-self-else-passes : goal.invariant_of-self-else-passes
 invariant_of-self-else-passes c = (
-  c.after_failure-self-inside.ensures.counted,
+  c.count_failure.ensures.counted,
   one_more _ _ (below _ _ _ c.self.invariant.1 c.if-self-len.false c.len.ensures),
   room_kept _ _ _ _ c.self.invariant.2,
 )
 
 pub returns-then-passes-clause-trace : goal.returns-then-passes-clause-trace
-returns-then-passes-clause-trace c = rw (← c.self.view_is) c.after_send-self-inside.ensures.trace
+returns-then-passes-clause-trace c = rw (← c.self.view_is) c.count_send.ensures.trace
 
 pub returns-then-passes-clause-script : goal.returns-then-passes-clause-script
 returns-then-passes-clause-script c =
@@ -119,7 +119,7 @@ pub returns-then-passes-clause-spent : goal.returns-then-passes-clause-spent
 returns-then-passes-clause-spent c = λ wrong. absurd cc
 
 pub returns-else-passes-clause-trace : goal.returns-else-passes-clause-trace
-returns-else-passes-clause-trace c = rw (← c.self.view_is) c.after_failure-self-inside.ensures.trace
+returns-else-passes-clause-trace c = rw (← c.self.view_is) c.count_failure.ensures.trace
 
 pub returns-else-passes-clause-script : goal.returns-else-passes-clause-script
 returns-else-passes-clause-script c =

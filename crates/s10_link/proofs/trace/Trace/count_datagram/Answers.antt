@@ -1,5 +1,5 @@
 use Rattle.std.proofs.Common.{rules}
-use Rattle.s10_link.proofs.trace.Trace.after_datagram.Goals as goal
+use Rattle.s10_link.proofs.trace.Trace.count_datagram.Goals as goal
 
 pub returns-clause-trace : goal.returns-clause-trace
 returns-clause-trace c = search rules
