@@ -1,8 +1,10 @@
 -- Defines what an index of calls holds.
 use Rattle.std.specs.Prelude.{◌≡◌, ◌≤◌, ◌<◌, List, length}
-use Rattle.std.specs.HashMap.{spare}
+use Rattle.std.specs.HashMap.{hasher_of, spare}
+use Rattle.std.specs.HashSet.{hasher_of as seed_of}
 use Rattle.s10_history.specs.declared.entry.Entry.{Entry}
 use Rattle.s10_history.specs.Issues.{carried_by}
+use Rattle.s10_ranges.specs.declared.hash_seed.HashSeed.{HashSeed}
 use Rattle.s10_ranges.specs.Mirror.{Mirrors}
 use Rattle.s10_ranges.specs.Room.{HasRoom}
 use Rattle.s10_index.specs.declared.call_index.CallIndex.{CallIndex}
@@ -23,3 +25,9 @@ pub record HasRoomFor (index : CallIndex) (e : Entry) : Type 0 where
   pub ranges : HasRoom index.ranges
   pub positions : 0 < spare index.positions
   pub issues : length (carried_by e.outcome) ≤ spare index.issues
+
+-- The maps of the index and its set of closed ranges hash with this seed.
+pub record HashesWith (index : CallIndex) (seed : HashSeed) : Type 0 where
+  pub positions : hasher_of index.positions ≡ seed
+  pub issues : hasher_of index.issues ≡ seed
+  pub closed : seed_of index.ranges.closed.numbers ≡ seed

@@ -18,7 +18,7 @@ use crate::last_issues::{record_call, recorded_issue};
 use crate::positions::{find_in, position_of, record_position};
 use s10_core::{Id, Serial};
 use s10_history::{Candidate, Entry, Issuance, Issue, Range};
-use s10_ranges::{MarkMove, Ranges};
+use s10_ranges::{HashSeed, MarkMove, Ranges};
 use std::alloc::{AllocError, Global};
 use std::collections::HashMap;
 
@@ -34,26 +34,27 @@ pub struct CallIndex {
     /// The ranges of the calls, with their marks.
     pub(crate) ranges: Ranges,
     /// The index of each call in `entries`, from 0.
-    positions: HashMap<CallKey, u32>,
+    positions: HashMap<CallKey, u32, HashSeed>,
     /// The last issue of each identifier.
-    pub(crate) issues: HashMap<IdKey, Issue>,
+    pub(crate) issues: HashMap<IdKey, Issue, HashSeed>,
     /// How the call that was prepared last moves the marks. Kept from call to call for its memory.
     moves: Vec<MarkMove>,
     ghost fitting: { All (λ e. IsTrue (fits e.request.body e.outcome)) entries.items },
 }
 
 impl CallIndex {
-    ghost use Rattle.s10_index.specs.CallIndex.{Indexes, HasRoomFor};
+    ghost use Rattle.s10_index.specs.CallIndex.{Indexes, HasRoomFor, HashesWith};
 
-    /// Creates an index of no calls.
-    pub fn new(alloc: Global) -> CallIndex
-        ensures { Indexes result [] }
+    /// Creates an index of no calls. Its hashes have this seed.
+    pub fn new(alloc: Global, seed: HashSeed) -> CallIndex
+        ensures none { Indexes result [] }
+        ensures seeded { HashesWith result seed }
     {
         CallIndex {
             entries: CallLog::new(alloc),
-            ranges: Ranges::new(alloc),
-            positions: HashMap::new(alloc),
-            issues: HashMap::new(alloc),
+            ranges: Ranges::new(alloc, seed),
+            positions: HashMap::with_hasher(alloc, seed),
+            issues: HashMap::with_hasher(alloc, seed),
             moves: Vec::new(alloc),
         }
     }

@@ -11,7 +11,7 @@ ghost use Rattle.s10_history.specs.Usage.{usage_of, CountsSerials};
 ghost use Rattle.s10_history.specs.declared.settings.TheConstants.{MAX_LIMIT};
 ghost use Rattle.s10_book.specs.Rules.{IsLegal, MayFollow};
 ghost use Rattle.s10_book.specs.BookFault.{CountsResult, no_faults};
-ghost use Rattle.s10_index.specs.CallIndex.{Indexes};
+ghost use Rattle.s10_index.specs.CallIndex.{Indexes, HashesWith};
 
 use crate::call_index::CallIndex;
 use s10_book::{Book, BookFault, Faults, GroupCommit};
@@ -19,6 +19,7 @@ use s10_core::Id;
 use s10_history::{
     Candidate, Entry, HolderKey, Issue, Range, SerialSpan, Settings, Usage, usage_by,
 };
+use s10_ranges::HashSeed;
 use std::alloc::{AllocError, Global};
 
 /// A book in memory over an index of its calls. It is always honest, and only `keep` can fail, with
@@ -39,17 +40,18 @@ pub struct IndexedBook {
 }
 
 impl IndexedBook {
-    /// Creates an empty book with these settings and no fault counted.
-    pub fn new(alloc: Global, settings: Settings) -> IndexedBook
+    /// Creates an empty book with these settings and no fault counted. Its hashes have this seed.
+    pub fn new(alloc: Global, seed: HashSeed, settings: Settings) -> IndexedBook
         ensures history { ⟦<IndexedBook as Book>⟧.history result ≡ [] }
         ensures terms { ⟦<IndexedBook as Book>⟧.terms result ≡ settings }
         ensures faults { ⟦<IndexedBook as Book>⟧.faults result ≡ no_faults }
         ensures honest { ⟦<IndexedBook as Book>⟧.honest result }
+        ensures seeded { HashesWith result.index seed }
     {
         IndexedBook {
             settings,
             faults: Faults::none(),
-            index: CallIndex::new(alloc),
+            index: CallIndex::new(alloc, seed),
         }
     }
 

@@ -14,10 +14,11 @@ ghost use Rattle.s10_index.specs.LastIssues.{as_issue};
 use crate::id_key::IdKey;
 use s10_core::Id;
 use s10_history::{Entry, Issuance, Issue};
+use s10_ranges::HashSeed;
 use s10_wire::{Body, Outcome};
 use std::collections::HashMap;
 
-pub(crate) fn recorded_issue(issues: &HashMap<IdKey, Issue>, id: &Id) -> Option<Issue>
+pub(crate) fn recorded_issue(issues: &HashMap<IdKey, Issue, HashSeed>, id: &Id) -> Option<Issue>
     ensures value { result ≡ get same_id_key issues.now (id_key id.now) }
     ensures parts { IsId id.now }
 {
@@ -25,7 +26,7 @@ pub(crate) fn recorded_issue(issues: &HashMap<IdKey, Issue>, id: &Id) -> Option<
 }
 
 // Records what the call issued or voided, in memory reserved for all its issuances.
-pub(crate) fn record_call(issues: &mut HashMap<IdKey, Issue>, entry: &Entry)
+pub(crate) fn record_call(issues: &mut HashMap<IdKey, Issue, HashSeed>, entry: &Entry)
     requires room { length (carried_by entry.now.outcome) ≤ spare issues.old }
     ensures { (h : List Entry) (t : Terms) → IsLegal h t → HasIssues issues.old h
         → HasIssues issues.new (h ++ entry.now ∷ []) }
@@ -41,7 +42,7 @@ pub(crate) fn record_call(issues: &mut HashMap<IdKey, Issue>, entry: &Entry)
 }
 
 // Records each issuance of the call, in memory reserved for all of them.
-fn record_issues(issues: &mut HashMap<IdKey, Issue>, entry: &Entry)
+fn record_issues(issues: &mut HashMap<IdKey, Issue, HashSeed>, entry: &Entry)
     requires room { length (carried_by entry.now.outcome) ≤ spare issues.old }
     ensures { (h : List Entry) → HasLast issues.old (h ++ entry.now ∷ []) (issues_of h)
         → HasLast issues.new (h ++ entry.now ∷ []) (issues_of (h ++ entry.now ∷ [])) }
@@ -55,7 +56,7 @@ fn record_issues(issues: &mut HashMap<IdKey, Issue>, entry: &Entry)
 }
 
 // Records an issuance, in memory reserved for one more.
-fn record_issue(issues: &mut HashMap<IdKey, Issue>, issuance: &Issuance)
+fn record_issue(issues: &mut HashMap<IdKey, Issue, HashSeed>, issuance: &Issuance)
     requires room { 0 < spare issues.old }
     ensures recorded { RecordsIssue (id_key issuance.now.id) (as_issue issuance.now false)
         issues.old issues.new }
@@ -71,7 +72,7 @@ fn record_issue(issues: &mut HashMap<IdKey, Issue>, issuance: &Issuance)
     let _ = issues.insert(IdKey::of(&issuance.id), issue);
 }
 
-fn record_void(issues: &mut HashMap<IdKey, Issue>, id: &Id)
+fn record_void(issues: &mut HashMap<IdKey, Issue, HashSeed>, id: &Id)
     ensures voids { RecordsVoid (id_key id.now) issues.old issues.new }
     ensures parts { IsId id.now }
 {

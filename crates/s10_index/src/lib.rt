@@ -20,3 +20,4 @@ pub use call_index::CallIndex;
 pub use call_log::CallLog;
 pub use call_writes::call_write;
 pub use indexed_book::IndexedBook;
+pub use s10_ranges::HashSeed;

@@ -10,11 +10,12 @@ ghost use Rattle.s10_index.specs.Positions.{HasPositions};
 use crate::call_key::CallKey;
 use crate::call_log::CallLog;
 use s10_history::Entry;
+use s10_ranges::HashSeed;
 use std::collections::HashMap;
 
 pub(crate) fn find_in(
     calls: &CallLog,
-    positions: &HashMap<CallKey, u32>,
+    positions: &HashMap<CallKey, u32, HashSeed>,
     key: &CallKey,
 ) -> Option<Entry>
     ensures answer { HasPositions positions.now calls.now.items
@@ -26,14 +27,18 @@ pub(crate) fn find_in(
 }
 
 // Returns the index of the call with that key, from 0, or `None`.
-pub(crate) fn position_of(positions: &HashMap<CallKey, u32>, key: &CallKey) -> Option<u32>
+pub(crate) fn position_of(positions: &HashMap<CallKey, u32, HashSeed>, key: &CallKey) -> Option<u32>
     ensures { result ≡ get same_call_key positions.now key.now }
 {
     positions.get(key).copied()
 }
 
 // Records the index of the next call, in reserved memory. Its key is new.
-pub(crate) fn record_position(positions: &mut HashMap<CallKey, u32>, entry: &Entry, place: u32)
+pub(crate) fn record_position(
+    positions: &mut HashMap<CallKey, u32, HashSeed>,
+    entry: &Entry,
+    place: u32,
+)
     requires room { 0 < spare positions.old }
     ensures { (h : List Entry) → HasPositions positions.old h → place ≡ length h
         → find_entry h entry.now.request.customer entry.now.request.number ≡ None

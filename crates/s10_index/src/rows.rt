@@ -17,13 +17,14 @@ use crate::indexed_book::IndexedBook;
 use crate::last_issues::recorded_issue;
 use s10_book::Book;
 use s10_history::{Entry, Issuance, Issue};
+use s10_ranges::HashSeed;
 use s10_rows::{ClosedRow, RangeRow, SerialRow};
 use std::alloc::{AllocError, Global};
 use std::collections::HashMap;
 
 // Returns the row of an issuance of the history if it is the last one of its identifier. It is if
 // the recorded issue has its day, since no identifier is issued twice on one day.
-fn last_row(issues: &HashMap<IdKey, Issue>, issuance: &Issuance) -> Option<SerialRow>
+fn last_row(issues: &HashMap<IdKey, Issue, HashSeed>, issuance: &Issuance) -> Option<SerialRow>
     ensures { (h : List Entry) (t : Terms) (before behind : List Issuance) → IsLegal h t
         → 1 ≤ t.interval → HasIssues issues.now h
         → issues_of h ≡ before ++ issuance.now ∷ behind
@@ -40,7 +41,7 @@ fn last_row(issues: &HashMap<IdKey, Issue>, issuance: &Issuance) -> Option<Seria
 // index of the first call (`place`) is 0.
 fn push_rows(
     rows: &mut Vec<SerialRow>,
-    issues: &HashMap<IdKey, Issue>,
+    issues: &HashMap<IdKey, Issue, HashSeed>,
     entry: &Entry,
     place: u32,
 ) -> Result<(), AllocError>

@@ -12,6 +12,7 @@ mod sql_book;
 
 pub use closed_book::ClosedBook;
 pub use refused::Refused;
+pub use s10_ranges::HashSeed;
 pub use s10_rows::OpenFault;
 pub use s10_statements::{NoObserver, Observer};
 pub use sql_book::SqlBook;

@@ -33,6 +33,7 @@ use crate::refused::Refused;
 use crate::sql_book::SqlBook;
 use s10_book::Book;
 use s10_index::IndexedBook;
+use s10_ranges::HashSeed;
 use s10_rows::OpenFault;
 use s10_statements::Observer;
 use sqlite::{Alter, Connection};
@@ -42,6 +43,7 @@ use std::alloc::Global;
 // those of its calls.
 fn replay_tables<S: Alter, W: Observer>(
     alloc: Global,
+    seed: HashSeed,
     conn: &mut Connection<S>,
     form: TableLayout,
     observer: &mut W,
@@ -58,7 +60,7 @@ fn replay_tables<S: Alter, W: Observer>(
         → IsTrue (state S.Store conn.new).is_open
         → IfErr result (IsOpeningRefusal (state S.Store conn.old).now) }
 {
-    let (book, rows) = match read_tables(alloc, conn, form, observer) {
+    let (book, rows) = match read_tables(alloc, seed, conn, form, observer) {
         Ok(read) => read,
         Err(error) => {
             observer.statement_failed(&error);
@@ -73,6 +75,7 @@ fn replay_tables<S: Alter, W: Observer>(
 // Returns the book of the ledger in the tables. Completes the tables of an earlier build.
 fn ledger_in<S: Alter, W: Observer>(
     alloc: Global,
+    seed: HashSeed,
     conn: &mut Connection<S>,
     observer: &mut W,
 ) -> Result<IndexedBook, OpenFault>
@@ -107,7 +110,7 @@ fn ledger_in<S: Alter, W: Observer>(
     let Some(form) = table_layout_of(conn.schema()) else {
         return Err(OpenFault::NotALedger);
     };
-    let book = replay_tables(alloc, conn, form, observer)?;
+    let book = replay_tables(alloc, seed, conn, form, observer)?;
     complete(conn, form, observer)?;
     Ok(book)
 }
@@ -125,7 +128,7 @@ impl<S: Alter> SqlBook<S> {
     ghost use Rattle.s10_ledger.specs.Refusals.{IsOpeningRefusal, HasSomeTableLayout};
 
     /// Opens a ledger: executes all its calls again, and compares the rows of the other tables with
-    /// the derived ones.
+    /// the derived ones. The hashes of its index have this seed.
     ///
     /// The ledger has its five tables, which other tables may follow, or the four of an earlier
     /// build and nothing else. In the second case `closed` is created once everything is found
@@ -145,6 +148,7 @@ impl<S: Alter> SqlBook<S> {
     /// open.
     pub fn open<W: Observer>(
         alloc: Global,
+        seed: HashSeed,
         mut conn: Connection<S>,
         observer: &mut W,
     ) -> Result<SqlBook<S>, Refused<S>>
@@ -189,7 +193,7 @@ impl<S: Alter> SqlBook<S> {
     {
         // Brings into scope that a connection in no transaction has nothing to commit.
         prove!(conn.is_autocommit());
-        match ledger_in(alloc, &mut conn, observer) {
+        match ledger_in(alloc, seed, &mut conn, observer) {
             Ok(book) => {
                 let settings = book.settings();
                 Ok(SqlBook::over(alloc, conn, settings, book.into_index()))

@@ -15,6 +15,7 @@ use s10_book::{Book, BookFault, Faults, GroupCommit, LastFailure, MAX_BATCH};
 use s10_core::Id;
 use s10_history::{Candidate, Entry, HolderKey, Issue, Range, SerialSpan, Settings, Usage};
 use s10_index::CallIndex;
+use s10_ranges::HashSeed;
 use s10_rows::{CallWrite, OpenFault};
 use s10_statements::{NoObserver, Observer, create_tables, refusal_of};
 use sqlite::{Alter, Connection, Error, MemStore};
@@ -82,7 +83,8 @@ impl<S: Alter> SqlBook<S> {
     ghost use Rattle.s10_statements.specs.Creating.{HasOneOfTheNames, IsCreateRefusal};
     ghost use Rattle.s10_schema.specs.Schema.{no_schema, ledger_schema};
 
-    /// Creates an empty ledger with these settings in an empty database, in one transaction.
+    /// Creates an empty ledger with these settings in an empty database, in one transaction. The
+    /// hashes of its index have this seed.
     ///
     /// # Errors
     ///
@@ -94,6 +96,7 @@ impl<S: Alter> SqlBook<S> {
     /// open.
     pub fn create<W: Observer>(
         alloc: Global,
+        seed: HashSeed,
         conn: Connection<S>,
         settings: Settings,
         observer: &mut W,
@@ -140,7 +143,7 @@ impl<S: Alter> SqlBook<S> {
             let fault = opening_fault(error);
             return Err(Refused { fault, connection });
         }
-        let index = CallIndex::new(alloc);
+        let index = CallIndex::new(alloc, seed);
         Ok(SqlBook::over(alloc, connection, settings, index))
     }
 
@@ -264,13 +267,18 @@ impl SqlBook<MemStore> {
     ghost use Rattle.s10_ledger.specs.Ledger.{IsHonest, history_in, history_of, committed_of};
     ghost use Rattle.s10_schema.specs.Schema.{ledger_schema};
 
-    /// Creates an empty ledger with these settings in memory.
+    /// Creates an empty ledger with these settings in memory. The hashes of its index have this
+    /// seed.
     ///
     /// # Errors
     ///
     /// - `Memory` if out of memory.
     /// - `Store` if a statement fails.
-    pub fn in_memory(alloc: Global, settings: Settings) -> Result<SqlBook<MemStore>, OpenFault>
+    pub fn in_memory(
+        alloc: Global,
+        seed: HashSeed,
+        settings: Settings,
+    ) -> Result<SqlBook<MemStore>, OpenFault>
         ensures new { IfOk result (λ b. (b.terms ≡ settings) × (b.faults ≡ no_faults)) }
         ensures idle { IfOk result (λ b. b.conn.in_transaction ≡ false) }
         ensures committed { IfOk result (λ b. (state over_memory b.conn).committed
@@ -286,7 +294,7 @@ impl SqlBook<MemStore> {
         let Ok(conn) = Connection::open_in_memory(alloc) else {
             return Err(OpenFault::Memory);
         };
-        match SqlBook::create(alloc, conn, settings, &mut NoObserver) {
+        match SqlBook::create(alloc, seed, conn, settings, &mut NoObserver) {
             Ok(book) => Ok(book),
             Err(
                 Refused {

@@ -1,11 +1,12 @@
 //! The numbers of the closed ranges, held in memory.
 
 ghost use Rattle.std.specs.Prelude.{◌≡◌, ◌<◌, ◌++◌, ◌∷◌, [], List, OnOk};
-ghost use Rattle.std.specs.HashSet.{spare};
+ghost use Rattle.std.specs.HashSet.{hasher_of, spare};
 ghost use Rattle.s10_history.specs.declared.entry.Entry.{Entry};
 ghost use Rattle.s10_history.specs.History.{is_closed};
 ghost use Rattle.s10_ranges.specs.ClosedRanges.{HasClosed};
 
+use crate::hash_seed::HashSeed;
 use s10_history::Entry;
 use s10_wire::{Body, Outcome};
 use std::alloc::{AllocError, Global};
@@ -15,16 +16,17 @@ use std::collections::HashSet;
 #[derive(Drop)]
 pub struct ClosedRanges {
     /// Range numbers, from 1, in no order.
-    numbers: HashSet<u32>,
+    numbers: HashSet<u32, HashSeed>,
 }
 
 impl ClosedRanges {
-    /// Creates an empty set: no range is closed.
-    pub fn new(alloc: Global) -> ClosedRanges
-        ensures { HasClosed result [] }
+    /// Creates an empty set: no range is closed. Its hashes have this seed.
+    pub fn new(alloc: Global, seed: HashSeed) -> ClosedRanges
+        ensures none { HasClosed result [] }
+        ensures seeded { hasher_of result.numbers ≡ seed }
     {
         ClosedRanges {
-            numbers: HashSet::new(alloc),
+            numbers: HashSet::with_hasher(alloc, seed),
         }
     }
 

@@ -3,6 +3,7 @@
 #![tactic(auto)]
 
 mod closed_ranges;
+mod hash_seed;
 mod insertion;
 mod keys;
 mod lap;
@@ -15,6 +16,7 @@ mod order;
 mod ranges;
 mod sort_key;
 
+pub use hash_seed::HashSeed;
 pub use lap::Lap;
 pub use mark::Mark;
 pub use mark_move::MarkMove;

@@ -7,8 +7,10 @@ ghost use Rattle.s10_ranges.specs.declared.sort_key.SortKey.TheVariants.{First, 
 ghost use Rattle.s10_ranges.specs.Keys.{key_by};
 ghost use Rattle.s10_ranges.specs.Order.{IsOrder};
 ghost use Rattle.s10_ranges.specs.Sound.{AreSound};
+ghost use Rattle.std.specs.HashSet.{hasher_of};
 
 use crate::closed_ranges::ClosedRanges;
+use crate::hash_seed::HashSeed;
 use crate::insertion::{index_by_holder, index_by_serial};
 use crate::lap::Lap;
 use crate::lap_at::lap_at;
@@ -59,16 +61,17 @@ impl Ranges {
     ghost use Rattle.s10_ranges.specs.Moves.{AreMoves, IsMoveOf};
     ghost use Rattle.s10_ranges.specs.Room.{HasRoom};
 
-    /// Creates an empty list of ranges.
-    pub fn new(alloc: Global) -> Ranges
-        ensures { Mirrors result [] }
+    /// Creates an empty list of ranges. The hashes of its set have this seed.
+    pub fn new(alloc: Global, seed: HashSeed) -> Ranges
+        ensures none { Mirrors result [] }
+        ensures seeded { hasher_of result.closed.numbers ≡ seed }
     {
         Ranges {
             ranges: Vec::new(alloc),
             marks: Vec::new(alloc),
             by_serial: Vec::new(alloc),
             by_holder: Vec::new(alloc),
-            closed: ClosedRanges::new(alloc),
+            closed: ClosedRanges::new(alloc, seed),
         }
     }
 

@@ -2,7 +2,7 @@
 
 use s10_book::{Book, PlainBook};
 use s10_history::Settings;
-use s10_index::IndexedBook;
+use s10_index::{HashSeed, IndexedBook};
 use s10_reports::{ReportFault, write_issues, write_ranges};
 use s10_test_help::expect::same;
 use std::alloc::Global;
@@ -20,7 +20,7 @@ pub(crate) fn plain_book(alloc: Global) -> PlainBook {
 
 /// Returns an empty book with an index.
 pub(crate) fn indexed_book(alloc: Global) -> IndexedBook {
-    IndexedBook::new(alloc, settings())
+    IndexedBook::new(alloc, HashSeed::fixed(), settings())
 }
 
 /// Returns the report of the ranges on a day, followed by the report of the issues.

@@ -2,7 +2,7 @@
 
 use s10_core::{Country, Id, Serial, Service};
 use s10_history::{Entry, Range};
-use s10_ranges::Ranges;
+use s10_ranges::{HashSeed, Ranges};
 use s10_wire::{Body, Outcome, Request};
 use std::process::Abort;
 
@@ -127,7 +127,7 @@ pub(crate) fn withdraw<R: Abort + AllocGlobal>(
 
 /// Returns the ranges after all grants of `GRANTS`, in their order.
 pub(crate) fn all_granted<R: Abort + AllocGlobal>(rt: &R) -> Ranges {
-    let mut ranges = Ranges::new(rt.alloc());
+    let mut ranges = Ranges::new(rt.alloc(), HashSeed::fixed());
     let mut num = 0u32;
     for granted in &GRANTS {
         num = num.saturating_add(1);

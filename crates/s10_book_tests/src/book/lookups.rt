@@ -3,7 +3,7 @@
 use crate::book::granted::{
     Granted, all_granted, country, grant, numbered, range, serial, service, withdraw,
 };
-use s10_ranges::Ranges;
+use s10_ranges::{HashSeed, Ranges};
 use s10_test_help::expect::same;
 use s10_wire::Outcome;
 use std::process::Abort;
@@ -163,7 +163,7 @@ fn ranges_of_another_service_or_country_are_not_found(rt: HostRuntime) {
 
 #[test]
 fn no_range_is_found_without_ranges(rt: HostRuntime) {
-    let ranges = Ranges::new(rt.alloc());
+    let ranges = Ranges::new(rt.alloc(), HashSeed::fixed());
     assert!(rt; ranges.range_by_number(1).is_none());
     assert!(rt; !ranges.is_closed(1));
     has_next(&rt, &ranges, 7, 0, 0);

@@ -14,6 +14,7 @@ use crate::opening::replaying::replayed_book;
 use crate::opening::stored_rows::StoredRows;
 use crate::opening::table_layout::TableLayout;
 use s10_index::IndexedBook;
+use s10_ranges::HashSeed;
 use s10_rows::{CallRow, ClosedRow, HeadRow, OpenFault, RangeRow, SerialRow};
 use s10_statements::{Observer, all_calls, all_closed, all_heads, all_ranges, all_serials};
 use sqlite::{Alter, Connection, Error};
@@ -82,6 +83,7 @@ fn read_derived_rows<S: Alter, W: Observer>(
 // with it.
 pub(crate) fn read_tables<S: Alter, W: Observer>(
     alloc: Global,
+    seed: HashSeed,
     conn: &mut Connection<S>,
     form: TableLayout,
     observer: &mut W,
@@ -97,7 +99,7 @@ pub(crate) fn read_tables<S: Alter, W: Observer>(
 {
     let closed = closed_rows(alloc, conn, form)?;
     let (heads, calls) = read_call_rows(alloc, conn, observer)?;
-    let book = replayed_book(alloc, heads, calls);
+    let book = replayed_book(alloc, seed, heads, calls);
     let (ranges, serials) = read_derived_rows(alloc, conn, observer)?;
     let rows = StoredRows {
         ranges,

@@ -10,6 +10,7 @@ ghost use Rattle.s10_ledger.specs.Replaying.{IsReplayedBook, IsReplayFault};
 
 use s10_history::Settings;
 use s10_index::IndexedBook;
+use s10_ranges::HashSeed;
 use s10_replay::{replay_rows, settings_in};
 use s10_rows::{CallRow, HeadRow, OpenFault};
 use std::alloc::Global;
@@ -17,6 +18,7 @@ use std::alloc::Global;
 // Executes the calls of the rows again in a new book.
 fn replay_calls(
     alloc: Global,
+    seed: HashSeed,
     settings: Settings,
     calls: &[CallRow],
 ) -> Result<IndexedBook, OpenFault>
@@ -27,7 +29,7 @@ fn replay_calls(
         → IsHead tables.heads (pos 1) settings → IfErr result (IsRefusal tables) }
     ensures replay_fault { IfErr result IsReplayFault }
 {
-    let mut book = IndexedBook::new(alloc, settings);
+    let mut book = IndexedBook::new(alloc, seed, settings);
     replay_rows(&mut book, calls)?;
     Ok(book)
 }
@@ -37,6 +39,7 @@ fn replay_calls(
 // call, `Memory` if out of memory.
 pub(crate) fn replayed_book(
     alloc: Global,
+    seed: HashSeed,
     heads: Vec<HeadRow>,
     calls: Vec<CallRow>,
 ) -> Result<IndexedBook, OpenFault>
@@ -50,5 +53,5 @@ pub(crate) fn replayed_book(
         → IfErr result IsReplayFault }
 {
     let settings = settings_in(&heads)?;
-    replay_calls(alloc, settings, &calls)
+    replay_calls(alloc, seed, settings, &calls)
 }

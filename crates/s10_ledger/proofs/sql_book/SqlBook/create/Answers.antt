@@ -26,15 +26,15 @@ pub over-requires : goal.over-requires
 over-requires g c =
     let db = (state g.S.Store c.create_tables.new.conn).now in
     record {
-      few = omega (arith, ap length c.new-index.ensures.calls);
+      few = omega (arith, ap length c.new-index.ensures.none.calls);
       settled = c.in_default-create_tables.ensures.settled;
       ledger = λ clean opened. subst (λ (l : List Entry). IsLedger db c.args.settings (length l)
-          (day_of l)) (sym c.new-index.ensures.calls)
+          (day_of l)) (sym c.new-index.ensures.none.calls)
           (new_ledger db c.args.settings (c.in_default-create_tables.ensures.all clean
           (c.refusal_of.ensures.none c.in_default.is)));
       indexed = λ clean opened. subst (Indexes c.new-index.result)
           (sym (no_history db c.args.settings (c.in_default-create_tables.ensures.all clean
-          (c.refusal_of.ensures.none c.in_default.is)))) c.new-index.ensures;
+          (c.refusal_of.ensures.none c.in_default.is)))) c.new-index.ensures.none;
       opened = λ clean. c.in_default-create_tables.ensures.opened clean;
     }
 
@@ -48,7 +48,7 @@ pub returns-clause-honest : goal.returns-clause-honest
 returns-clause-honest g c = rw c.over.ensures (λ clean opened.
     let db = (state g.S.Store c.create_tables.new.conn).now in
     let it = subst (λ (l : List Entry). IsLedger db c.args.settings (length l) (day_of l))
-    (sym c.new-index.ensures.calls)
+    (sym c.new-index.ensures.none.calls)
     (new_ledger db c.args.settings (c.in_default-create_tables.ensures.all clean
     (c.refusal_of.ensures.none c.in_default.is))) in
     record {
