@@ -1,4 +1,5 @@
-//! Tests of books, rules and reports, of ranges in memory, and of the book with an index.
+//! Tests of books, rules and reports, of ranges in memory, of the book with an index, and of
+//! seeds of hashes.
 
 mod answers;
 mod batched;
@@ -6,6 +7,8 @@ mod books;
 mod both_books;
 mod failures;
 mod granted;
+mod hash_seeds;
+mod info;
 mod lookups;
 mod marks;
 mod mixed;

@@ -5,6 +5,7 @@ mod frames;
 mod identifiers;
 mod lines;
 mod messages;
+mod notes;
 mod packets;
 mod peers;
 mod refusals;

@@ -1,1 +1,2 @@
 pub mod Reporting
+mod Tallying

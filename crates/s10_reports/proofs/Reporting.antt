@@ -41,12 +41,12 @@ joined_more u v w lines line before written =
     (append-nil line) in
     subst P (sym same) (Appends-then u v w (joined lines) line before written)
 
-first_taken : (f : Range → List ℕ) (n : ℕ) (x r : Range) (xs : List Range) → x.num ≡ n
+first_taken : {X : Type 0} (f : Range → X) (n : ℕ) (x r : Range) (xs : List Range) → x.num ≡ n
     → (((x.num == n + 0) ≡ true) × (x ≡ r))
     ⊎ (((x.num == n + 0) ≡ false) × (find (λ y. y.num == n + 0) xs ≡ Some r))
     → f x ∷ [] ≡ f r ∷ []
-first_taken f n x r xs num (inl here) = ap (λ (y : Range). f y ∷ []) here.1
-first_taken f n x r xs num (inr there) = let same : x.num ≡ n + 0 = omega (arith, num) in
+first_taken {X} f n x r xs num (inl here) = ap (λ (y : Range). f y ∷ []) here.1
+first_taken {X} f n x r xs num (inr there) = let same : x.num ≡ n + 0 = omega (arith, num) in
     absurd (eqb-false x.num (n + 0) there.0 same)
 
 not_first : (n k : ℕ) (x r : Range) (xs : List Range) → x.num ≡ n
@@ -58,17 +58,17 @@ not_first n k x r xs num (inl here) = let same : x.num ≡ n + suc k =
 not_first n k x r xs num (inr there) = there.1
 
 -- The range with the next number is the next range.
-pub next_taken : (f : Range → List ℕ) (n k : ℕ) (rs : List Range) (r : Range) → Numbered n rs
+pub next_taken : {X : Type 0} (f : Range → X) (n k : ℕ) (rs : List Range) (r : Range) → Numbered n rs
     → find (λ y. y.num == n + k) rs ≡ Some r
     → take (suc k) (map f rs) ≡ take k (map f rs) ++ f r ∷ []
-next_taken f n k [] r h e = absurd (none-some r e)
-next_taken f n zero (x ∷ xs) r h e =
+next_taken {X} f n k [] r h e = absurd (none-some r e)
+next_taken {X} f n zero (x ∷ xs) r h e =
     first_taken f n x r xs h.0 (find_cases (λ y. y.num == n + 0) x r xs e)
-next_taken f n (suc k) (x ∷ xs) r h e =
+next_taken {X} f n (suc k) (x ∷ xs) r h e =
     let there : find (λ y. y.num == n + suc k) xs ≡ Some r =
     not_first n k x r xs h.0 (find_cases (λ y. y.num == n + suc k) x r xs e) in
     let on : n + suc k ≡ n + 1 + k = omega arith in
-    ap (λ (l : List (List ℕ)). f x ∷ l)
+    ap (λ (l : List X). f x ∷ l)
     (next_taken f (n + 1) k xs r h.1 (ap (λ (m : ℕ). find (λ y. y.num == m) xs) (sym on)
     ∙ there))
 
