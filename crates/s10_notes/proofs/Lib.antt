@@ -1,0 +1,4 @@
+pub mod Written
+pub mod Numerals
+pub mod Digits
+pub mod Lived

@@ -1,0 +1,121 @@
+-- Decimal numbers without leading zeros, alone and before a separator.
+use Rattle.std.proofs.Common.{◌≡◌, ◌≢◌, ℕ, zero, suc, ◌+◌, ◌-◌, ◌^◌, ◌<◌, ◌≤◌, Bool, true, false}
+use Rattle.std.proofs.Common.{cond, eqb, List, [], ◌∷◌, ◌++◌, length, get_or, take, drop, Some}
+use Rattle.std.proofs.Common.{None, Result, Ok, Err, refl, sym, ap, ◌∙◌, arith, subst}
+use Rattle.std.proofs.Common.{length-append, add-one}
+use Rattle.std.specs.Prelude.{IfSome, MatchResult, position, decimal, ◌==◌, nat_lt}
+use Rattle.std.specs.Result.{result_ok}
+use Rattle.std.specs.List.{position_or_len}
+use Rattle.std.specs.Char.{IsAsciiDigit}
+use Rattle.std.specs.Int.{IsInRange}
+use Rattle.std.specs.Str.Parse.{AllDigits, digits_value, ParsesUnsigned}
+use Rattle.std.proofs.lemmas.Fmt.{decimal_is_IsNumeral, decimal_digit, decimal_nonempty}
+use Rattle.std.proofs.lemmas.Fmt.{first_decimal, parse-decimal, decimal-digits_value}
+use Rattle.std.proofs.lemmas.Str.Parse.{IsNumeralModel, numerals_by_value, tells_digits, digit_at}
+use Rattle.std.proofs.lemmas.Str.Parse.{parse_plain}
+use Rattle.std.proofs.lemmas.List.Sums.{position_or_len_is, passes_at_first}
+use Rattle.std.proofs.lemmas.Bool.{eqb-true, eq-eqb, false_from_ne_true, ltb-true, lt-ltb}
+use Rattle.std.proofs.lemmas.List.{get_or_append_left, take-append-drop, take_all, length-drop}
+use Rattle.std.proofs.Math.Seq.{get_or-append_seam, take-append_seam, drop-append_seam}
+use Rattle.std.proofs.lemmas.Option.{same_Some, none-some}
+
+own : IsNumeralModel (AllDigits 10) (digits_value 10)
+own = numerals_by_value (AllDigits 10) tells_digits
+
+-- A number begins with a digit.
+pub first_digit : (n : ℕ) → n < 2 ^ 64 → IsInRange 48 57 (get_or (decimal n) 0 0)
+first_digit n h = digit_at (decimal n) 0 (decimal_is_IsNumeral n h).0.1
+    (decimal_nonempty n h)
+
+-- A number that begins with a zero has one digit.
+pub no_leading_zero : (n : ℕ) → n < 2 ^ 64 → get_or (decimal n) 0 0 ≡ 48 → length (decimal n) ≡ 1
+no_leading_zero zero h first = ap length (decimal_digit 0 (omega arith))
+no_leading_zero (suc n) h first = let above : 48 < get_or (decimal (suc n)) 0 0 =
+    first_decimal (suc n) (omega arith) h in absurd (omega (arith, above))
+
+-- A parsed number is the one that the text spells.
+pub parsed_number : {E : Type 0} → (bs : List ℕ) (r : Result ℕ E) → ParsesUnsigned 64 10 bs r
+    → get_or bs 0 0 ≢ 43 → (get_or bs 0 0 ≡ 48 → length bs ≤ 1)
+    → IfSome (result_ok r) (λ n. bs ≡ decimal n)
+parsed_number {E} bs (Ok x) parses plain single =
+    let read = parse_plain own {E = E} 64 bs (Ok x) parses plain in
+    let alone : get_or bs 0 0 ≡ 48 → length bs ≡ 1 = λ z. let short : length bs ≤ 1 = single z in
+    omega (arith, read.0.1, short) in
+    let same : decimal (digits_value 10 bs) ≡ bs = decimal-digits_value own bs read.0.0 read.0.1
+    alone (omega (arith, read.0.2)) in
+    sym same ∙ ap decimal (sym read.1)
+parsed_number {E} bs (Err e) parses plain single = tt
+
+-- A number that the text spells is parsed.
+pub number_parsed : {E : Type 0} → (bs : List ℕ) (r : Result ℕ E) → ParsesUnsigned 64 10 bs r
+    → (n : ℕ) → n < 2 ^ 64 → bs ≡ decimal n → result_ok r ≡ Some n
+number_parsed bs r parses n h is = ap result_ok (parse-decimal 64 n bs r h h is parses)
+
+-- The index of the first separator after a number.
+pub position_after : (n : ℕ) (rest : List ℕ) (sep : ℕ) → n < 2 ^ 64 → ¬ (IsAsciiDigit sep)
+    → position (λ b. b == sep) (decimal n ++ sep ∷ rest) ≡ Some (length (decimal n))
+position_after n rest sep h other =
+    let ds : List ℕ = decimal n in
+    let whole : List ℕ = ds ++ sep ∷ rest in
+    let all : AllDigits 10 ds = (decimal_is_IsNumeral n h).0.1 in
+    let len : length whole ≡ length ds + suc (length rest) = length-append ds (sep ∷ rest) in
+    let before : (k : ℕ) → k < length ds → eqb (get_or whole k 0) sep ≡ false = λ k low.
+    false_from_ne_true _
+    (λ same. other (subst IsAsciiDigit (eqb-true _ _ same)
+    (subst IsAsciiDigit (sym (get_or_append_left ds (sep ∷ rest) 0 k low))
+    (digit_at ds k all low)))) in
+    let here : length ds < length whole → eqb (get_or whole (length ds) 0) sep ≡ true =
+    λ _. eq-eqb _ _ (get_or-append_seam ds sep rest 0) in
+    let is : position_or_len (λ b. b == sep) whole ≡ length ds =
+    position_or_len_is (λ b. b == sep) whole (length ds) 0 (omega (arith, len)) before here in
+    let low : nat_lt (length ds) (length whole) ≡ true =
+    lt-ltb (length ds) (length whole) (omega (arith, len)) in
+    rw (is, low) refl
+
+-- The index that was found is within the text.
+pub within_text : (sep : ℕ) (xs : List ℕ) (at : ℕ) → position (λ b. b == sep) xs ≡ Some at
+    → at < length xs
+within_text sep xs at found = found_at (nat_lt (position_or_len p xs) (length xs)) refl found
+  where
+    p : ℕ → Bool
+    p b = b == sep
+
+    found_at : (b : Bool) → nat_lt (position_or_len p xs) (length xs) ≡ b
+        → cond b (Some (position_or_len p xs)) None ≡ Some at → at < length xs
+    found_at true low is =
+        let short : position_or_len p xs < length xs = ltb-true _ _ low in
+        let place : position_or_len p xs ≡ at = cc in
+        subst (λ (k : ℕ). k < length xs) place short
+    found_at false low is = absurd cc
+
+-- A number before a separator is the text up to its index, and the separator follows.
+pub cut_after : (xs : List ℕ) (at n : ℕ) (rest : List ℕ) (sep : ℕ) → n < 2 ^ 64
+    → ¬ (IsAsciiDigit sep) → xs ≡ decimal n ++ sep ∷ rest
+    → Some at ≡ position (λ b. b == sep) xs → (take at xs ≡ decimal n) × (drop at xs ≡ sep ∷ rest)
+cut_after xs at n rest sep h other is found =
+    let ds : List ℕ = decimal n in
+    let place : at ≡ length ds = same_Some at (length ds) (found ∙ ap (position (λ b. b == sep)) is
+    ∙ position_after n rest sep h other) in
+    let front : take at xs ≡ ds = rw (place, is) (take-append_seam ds (sep ∷ rest)) in
+    (front, rw (place, is) (drop-append_seam ds (sep ∷ rest)))
+
+-- A text with a separator has an index of it.
+pub place_after : (xs : List ℕ) (n : ℕ) (rest : List ℕ) (sep : ℕ) → n < 2 ^ 64
+    → ¬ (IsAsciiDigit sep) → xs ≡ decimal n ++ sep ∷ rest
+    → None ≡ position (λ b. b == sep) xs → ⊥
+place_after xs n rest sep h other is found = none-some _ (found ∙ ap (position (λ b. b == sep)) is
+    ∙ position_after n rest sep h other)
+
+-- A property of a result holds of the value in it.
+pub taken : {A E : Type 0} → (r : Result A E) (P : A → Type 0) (Q : E → Type 0) (x : A)
+    → MatchResult r P Q → Some x ≡ result_ok r → P x
+taken (Ok y) P Q x holds is = subst P (same_Some y x (sym is)) holds
+taken (Err e) P Q x holds is = absurd (none-some x (sym is))
+
+pub refused : {A E : Type 0} → (r : Result A E) (P : A → Type 0) (Q : E → Type 0)
+    → MatchResult r P Q → None ≡ result_ok r → (e : E) × Q e
+refused (Ok y) P Q holds is = absurd (none-some y is)
+refused (Err e) P Q holds is = (e, holds)
+
+pub behind : (xs : List ℕ) (k : ℕ) → take (length xs - k) (drop k xs) ≡ drop k xs
+behind xs k = take_all (length xs - k) (drop k xs) (omega (arith, length-drop k xs))

@@ -1,0 +1,5 @@
+pub mod Notes
+pub mod Text
+pub mod Notebook
+pub mod Lives
+pub mod NotesFile

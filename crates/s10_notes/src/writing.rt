@@ -1,0 +1,64 @@
+//! Writes notes as their text.
+
+ghost use Rattle.std.specs.Prelude.{◌++◌, OnOk, codes, decimal};
+ghost use Rattle.std.specs.Io.KnownBytes.{Appends};
+ghost use Rattle.s10_notes.specs.Text.{notes_text, request_text};
+
+use crate::notes::Notes;
+use itoa::Buffer;
+use s10_lines::{WriteFault, write_text};
+use s10_wire::{Request, encode_request};
+use std::io::Write;
+
+/// Writes the one text of the notes: a line with a JSON object.
+///
+/// # Errors
+///
+/// `WriteFault` if the writer fails; part of the text may be written.
+pub fn write_notes<W: Write>(notes: &Notes, out: &mut W) -> Result<(), WriteFault>
+    ensures { OnOk result (Appends (W.contents out.old) (W.contents out.new) (notes_text notes.now)) }
+{
+    write_named(b"{\"customer\": ", notes.customer() as u64, out)?;
+    write_named(b", \"next\": ", notes.next(), out)?;
+    write_named(b", \"last\": ", notes.last() as u64, out)?;
+    write_text(b", \"request\": ", out)?;
+    write_open_request(&notes.request(), out)?;
+    write_text(b"}\n", out)
+}
+
+// Writes the name of a member, then its number.
+fn write_named<W: Write>(name: &[u8], number: u64, out: &mut W) -> Result<(), WriteFault>
+    ensures { OnOk result (Appends (W.contents out.old) (W.contents out.new)
+        (name.now ++ decimal number)) }
+{
+    let mut buffer = Buffer::new();
+    write_text(name, out)?;
+    write_text(buffer.format(number).as_bytes(), out)
+}
+
+fn write_open_request<W: Write>(request: &Option<Request>, out: &mut W) -> Result<(), WriteFault>
+    ensures { OnOk result (Appends (W.contents out.old) (W.contents out.new)
+        (request_text request.now)) }
+{
+    match request {
+        None => write_text(b"null", out),
+        Some(request) => write_digits(request, out),
+    }
+}
+
+fn write_digits<W: Write>(request: &Request, out: &mut W) -> Result<(), WriteFault>
+    ensures { OnOk result (Appends (W.contents out.old) (W.contents out.new)
+        (request_text (Some request.now))) }
+{
+    let frame = encode_request(request);
+    // A frame has at most 256 bytes, and a byte two digits.
+    let mut room = [0u8; 512];
+    let text = &mut room[..2 * frame.bytes().len()];
+    match hex::encode_to_slice(frame.bytes(), text) {
+        Ok(()) => {}
+        Err(_) => unreachable!(),
+    }
+    write_text(b"\"", out)?;
+    write_text(text, out)?;
+    write_text(b"\"", out)
+}
