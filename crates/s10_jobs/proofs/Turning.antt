@@ -1,6 +1,6 @@
 -- Lemmas about the turns of a server, one more batch at a time.
-use Rattle.std.proofs.Common.{◌≡◌, ◌≢◌, ℕ, ◌+◌, ◌<◌, ◌≤◌, List, [], ◌∷◌, ◌++◌, length, Option, Some}
-use Rattle.std.proofs.Common.{None, Result, Ok, Err, refl, sym, ap, subst, ◌∙◌, arith}
+use Rattle.std.proofs.Common.{◌≡◌, ℕ, ◌+◌, ◌<◌, ◌≤◌, Bool, true, false, List, [], ◌∷◌, ◌++◌, length}
+use Rattle.std.proofs.Common.{Option, Some, None, Result, Ok, Err, refl, sym, ap, subst, ◌∙◌, arith}
 use Rattle.std.proofs.Common.{length-append, map, inl, inr}
 use Rattle.std.proofs.lemmas.List.{map-append}
 use Rattle.std.proofs.lemmas.List.Elements.{All-nil, All-push}
@@ -17,7 +17,6 @@ use Rattle.s10_history.specs.declared.entry.Entry.{Entry}
 use Rattle.s10_history.specs.Settings.{Terms}
 use Rattle.s10_book.specs.declared.faults.Faults.{Faults}
 use Rattle.s10_book.specs.Rules.{IsLegal}
-use Rattle.s10_ends.specs.Turn.{Turn}
 use Rattle.s10_jobs.specs.declared.job_status.JobStatus.{JobStatus}
 use Rattle.s10_jobs.specs.declared.job_status.JobStatus.TheVariants.{Done, Refused, CommandLine, Failed}
 use Rattle.s10_jobs.specs.TurnLines.{turn_line}
@@ -26,6 +25,7 @@ use Rattle.s10_book.specs.Book.{Grows}
 use Rattle.s10_ends.proofs.Composing.{all_composed}
 use Rattle.s10_ends.proofs.Stops.{survived}
 use Rattle.s10_jobs.specs.Days.{Gives, IsTaken, AreTaken}
+use Rattle.s10_jobs.specs.Ending.{noes, AreEnded}
 use Rattle.s10_jobs.specs.Serving.{Serves, ServesTurns}
 
 lead_more : {S : Type 0} (IsStep : S → DatedBatch → S → Type 0) (old : S)
@@ -45,9 +45,9 @@ turns_more : (batches : List DatedBatch) (batch : DatedBatch) → turns_in (batc
     ≡ turns_in batches ++ batch.turns
 turns_more batches batch = sym (flat_map_more (λ (r : DatedBatch). r.turns) [] batches batch)
 
-module _ {D : Type 0} (gives : D → Option ℕ → D → Type 0) where
+module _ {D A : Type 0} (gives : D → A → D → Type 0) where
   -- A source that gave some answers gave one more.
-  gives_more : (old : D) (answers : List (Option ℕ)) (mid new : D) (answer : Option ℕ)
+  gives_more : (old : D) (answers : List A) (mid new : D) (answer : A)
       → Gives gives old answers mid → gives mid answer new
       → Gives gives old (answers ++ answer ∷ []) new
   unfolding Gives
@@ -63,13 +63,26 @@ module _ {D : Type 0} (gives : D → Option ℕ → D → Type 0) where
   unfolding Gives
   gives_none source = refl
 
+module _ {E : Type 0} (says : E → Bool → E → Type 0) where
+  -- The source of ends said no before each batch so far.
+  abbrev pub GoesOn : List DatedBatch → E → E → Type 0
+  GoesOn batches old new = Gives says old (noes batches) new
+
+  goes_on : (batches : List DatedBatch) (batch : DatedBatch) (old mid new : E)
+      → GoesOn batches old mid → says mid false new → GoesOn (batches ++ batch ∷ []) old new
+  goes_on batches batch old mid new sofar onward =
+      subst (λ (l : List Bool). Gives says old l new)
+      (sym (map-append (λ (b : DatedBatch). false) batches (batch ∷ [])))
+      (gives_more says old (noes batches) mid new false sofar onward)
+
+module _ {D : Type 0} (gives : D → Option ℕ → D → Type 0) where
   -- The days of batches so far.
   abbrev pub SoFar : Option ℕ → List ℕ → D → D → Type 0
   SoFar given days old new = AreTaken gives given days (Ok Done) old new
 
   pub none_taken : (given : Option ℕ) (source : D) → SoFar given [] source source
   none_taken (Some day) source = (All-nil (λ (d : ℕ). d ≡ day), refl)
-  none_taken None source = ([], gives_none source, refl)
+  none_taken None source = ([], gives_none gives source, refl)
 
   days_more : (given : Option ℕ) (batches : List DatedBatch) (batch : DatedBatch) (old mid new : D)
       → SoFar given (days_of batches) old mid → IsTaken gives given (Some batch.day) mid new
@@ -83,7 +96,7 @@ module _ {D : Type 0} (gives : D → Option ℕ → D → Type 0) where
   )
   days_more None batches batch old mid new (answers, gave, are) taken = (
     answers ++ Some batch.day ∷ [],
-    gives_more old answers mid new (Some batch.day) gave taken,
+    gives_more gives old answers mid new (Some batch.day) gave taken,
     ap (λ (l : List (Option ℕ)). l ++ Some batch.day ∷ []) are
         ∙ sym (ap (λ (l : List ℕ). map (λ (d : ℕ). Some d) l)
         (map-append (λ (b : DatedBatch). b.day) batches (batch ∷ []))
@@ -104,7 +117,7 @@ module _ {D : Type 0} (gives : D → Option ℕ → D → Type 0) where
   days_end (Some day) days old mid new result sofar taken failed = absurd (none-some day taken.0)
   days_end None days old mid new (Ok Failed) (answers, gave, are) taken failed = (
     answers ++ None ∷ [],
-    gives_more old answers mid new None gave taken,
+    gives_more gives old answers mid new None gave taken,
     ap (λ (l : List (Option ℕ)). l ++ None ∷ []) are,
   )
   days_end None days old mid new (Ok Done) sofar taken failed = absurd cc
@@ -112,52 +125,61 @@ module _ {D : Type 0} (gives : D → Option ℕ → D → Type 0) where
   days_end None days old mid new (Ok CommandLine) sofar taken failed = absurd cc
   days_end None days old mid new (Err fault) (answers, gave, are) taken failed = (
     answers ++ None ∷ [],
-    gives_more old answers mid new None gave taken,
+    gives_more gives old answers mid new None gave taken,
     inr (ap (λ (l : List (Option ℕ)). l ++ None ∷ []) are),
   )
 
 -- n turns were served, and their lines written.
-pub record HasServed {S D : Type 0} (IsStep : S → DatedBatch → S → Type 0)
-    (gives : D → Option ℕ → D → Type 0) (given : Option ℕ) (old new : S) (first last : D)
-    (held now : Option (List ℕ)) (done : ℕ) : Type 0 where
+pub record HasServed {S D E : Type 0} (IsStep : S → DatedBatch → S → Type 0)
+    (gives : D → Option ℕ → D → Type 0) (given : Option ℕ) (says : E → Bool → E → Type 0)
+    (old new : S) (first last : D) (begun ended : E) (held now : Option (List ℕ)) (done : ℕ) :
+    Type 0 where
   pub batches : List DatedBatch
   pub lead : BatchesLead IsStep old batches new
   pub days : SoFar gives given (days_of batches) first last
+  pub asked : GoesOn says batches begun ended
   pub many : length (turns_in batches) ≡ done
   pub written : Appends held now (flat_map turn_line (turns_in batches))
 
--- Turns that were served, with the days that they took.
-pub record ServesOn {S D : Type 0} (IsStep : S → DatedBatch → S → Type 0)
-    (gives : D → Option ℕ → D → Type 0) (given : Option ℕ) (old new : S) (first last : D)
-    (held now : Option (List ℕ)) (count : ℕ) (result : Result JobStatus WriteFault) : Type 0 where
+-- Turns that were served, with the days that they took and how they ended.
+pub record ServesOn {S D E : Type 0} (IsStep : S → DatedBatch → S → Type 0)
+    (gives : D → Option ℕ → D → Type 0) (given : Option ℕ) (says : E → Bool → E → Type 0)
+    (old new : S) (first last : D) (begun ended : E) (held now : Option (List ℕ)) (count : ℕ)
+    (result : Result JobStatus WriteFault) : Type 0 where
   pub serves : Serves IsStep old new held now count result
   pub days : AreTaken gives given (days_of serves.batches) result first last
+  pub ends : AreEnded says serves.batches count result begun ended
 
-pub none_served : {S D : Type 0} (IsStep : S → DatedBatch → S → Type 0)
-    (gives : D → Option ℕ → D → Type 0) (given : Option ℕ) (s : S) (first : D)
-    (held : Option (List ℕ)) → HasServed IsStep gives given s s first first held held 0
+pub none_served : {S D E : Type 0} (IsStep : S → DatedBatch → S → Type 0)
+    (gives : D → Option ℕ → D → Type 0) (given : Option ℕ) (says : E → Bool → E → Type 0) (s : S)
+    (first : D) (begun : E) (held : Option (List ℕ))
+    → HasServed IsStep gives given says s s first first begun begun held held 0
 unfolding BatchesLead
-none_served IsStep gives given s first held = record {
+none_served IsStep gives given says s first begun held = record {
   batches = [];
   lead = refl;
   days = none_taken gives given first;
+  asked = gives_none says begun;
   many = refl;
   written = Appends-nil held;
 }
 
-module _ {S D : Type 0} (IsStep : S → DatedBatch → S → Type 0) (gives : D → Option ℕ → D → Type 0)
-    (given : Option ℕ) (old mid new : S) (first then last : D)
+module _ {S D E : Type 0} (IsStep : S → DatedBatch → S → Type 0)
+    (gives : D → Option ℕ → D → Type 0) (given : Option ℕ) (says : E → Bool → E → Type 0)
+    (old mid new : S) (first then last : D) (begun at ended : E)
     (held before now : Option (List ℕ)) (done count : ℕ)
-    (served : HasServed IsStep gives given old mid first then held before done) where
+    (served : HasServed IsStep gives given says old mid first then begun at held before done) where
   -- One more batch, whose lines were written.
-  pub batch_served : (batch : DatedBatch) → IsStep mid batch new
+  pub batch_served : (batch : DatedBatch) → says at false ended → IsStep mid batch new
       → IsTaken gives given (Some batch.day) then last
       → Appends before now (flat_map turn_line batch.turns)
-      → HasServed IsStep gives given old new first last held now (done + length batch.turns)
-  batch_served batch step taken lines = record {
+      → HasServed IsStep gives given says old new first last begun ended held now
+      (done + length batch.turns)
+  batch_served batch onward step taken lines = record {
     batches = served.batches ++ batch ∷ [];
     lead = lead_more IsStep old served.batches mid new batch served.lead step;
     days = days_more gives given served.batches batch first then last served.days taken;
+    asked = goes_on says served.batches batch begun at ended served.asked onward;
     many = ap length (turns_more served.batches batch)
         ∙ omega (arith, length-append (turns_in served.batches) batch.turns, served.many);
     written = subst (λ l. Appends held now l)
@@ -169,10 +191,11 @@ module _ {S D : Type 0} (IsStep : S → DatedBatch → S → Type 0) (gives : D 
 
   -- One more batch, whose lines were not written.
   pub batch_unprinted : (batch : DatedBatch) (result : Result JobStatus WriteFault)
-      (IsFault : WriteFault → Type 0) → IsErrAnd result IsFault → IsStep mid batch new
+      (IsFault : WriteFault → Type 0) → IsErrAnd result IsFault → says at false ended
+      → IsStep mid batch new
       → IsTaken gives given (Some batch.day) then last → done + length batch.turns ≤ count
-      → ServesOn IsStep gives given old new first last held now count result
-  batch_unprinted batch (Err fault) IsFault failed step taken room =
+      → ServesOn IsStep gives given says old new first last begun ended held now count result
+  batch_unprinted batch (Err fault) IsFault failed onward step taken room =
       record {
         serves = record {
           batches = served.batches ++ batch ∷ [];
@@ -188,26 +211,50 @@ module _ {S D : Type 0} (IsStep : S → DatedBatch → S → Type 0) (gives : D 
         };
         days = days_unprinted gives given (days_of (served.batches ++ batch ∷ [])) first last fault
             (days_more gives given served.batches batch first then last served.days taken);
+        ends = (
+          noes (served.batches ++ batch ∷ []),
+          goes_on says served.batches batch begun at ended served.asked onward,
+          inl refl,
+        );
       }
-  batch_unprinted batch (Ok status) IsFault failed step taken room = absurd failed
+  batch_unprinted batch (Ok status) IsFault failed onward step taken room = absurd failed
 
   pub all_served : done ≡ count
-      → ServesOn IsStep gives given old mid first then held before count (Ok Done)
+      → ServesOn IsStep gives given says old mid first then begun at held before count (Ok Done)
   all_served same = record {
     serves = record {
       batches = served.batches;
       lead = served.lead;
       few = omega (arith, served.many, same);
-      shows = (served.many ∙ same, served.written);
+      shows = served.written;
     };
     days = served.days;
+    ends = (noes served.batches, served.asked, inl (served.many ∙ same, refl));
+  }
+
+  -- The source of ends said that the turns end before their count.
+  pub served_to_end : done < count → says at true ended
+      → ServesOn IsStep gives given says old mid first then begun ended held before count (Ok Done)
+  served_to_end few due = record {
+    serves = record {
+      batches = served.batches;
+      lead = served.lead;
+      few = omega (arith, served.many, few);
+      shows = served.written;
+    };
+    days = served.days;
+    ends = (
+      noes served.batches ++ true ∷ [],
+      gives_more says begun (noes served.batches) at ended true served.asked due,
+      inr (omega (arith, served.many, few), refl),
+    );
   }
 
   pub served_to_no_day : (result : Result JobStatus WriteFault) → done < count
-      → IsTaken gives given None then last
+      → says at false ended → IsTaken gives given None then last
       → IfOk result (λ status. (status ≡ Failed) × Appends before now (codes "clock\n"))
-      → ServesOn IsStep gives given old mid first last held now count result
-  served_to_no_day (Ok Failed) few taken (is, line) = record {
+      → ServesOn IsStep gives given says old mid first last begun ended held now count result
+  served_to_no_day (Ok Failed) few onward taken (is, line) = record {
     serves = record {
       batches = served.batches;
       lead = served.lead;
@@ -221,10 +268,15 @@ module _ {S D : Type 0} (IsStep : S → DatedBatch → S → Type 0) (gives : D 
     };
     days = days_end gives given (days_of served.batches) first then last (Ok Failed) served.days
         taken is;
+    ends = (
+      noes served.batches ++ false ∷ [],
+      gives_more says begun (noes served.batches) at ended false served.asked onward,
+      refl,
+    );
   }
-  served_to_no_day (Ok Done) few taken (is, line) = absurd cc
-  served_to_no_day (Ok status) few taken (is, line) = absurd cc
-  served_to_no_day (Err fault) few taken says = record {
+  served_to_no_day (Ok Done) few onward taken (is, line) = absurd cc
+  served_to_no_day (Ok status) few onward taken (is, line) = absurd cc
+  served_to_no_day (Err fault) few onward taken unsaid = record {
     serves = record {
       batches = served.batches;
       lead = served.lead;
@@ -233,26 +285,33 @@ module _ {S D : Type 0} (IsStep : S → DatedBatch → S → Type 0) (gives : D 
     };
     days = days_end gives given (days_of served.batches) first then last (Err fault) served.days
         taken tt;
+    ends = (
+      noes served.batches ++ false ∷ [],
+      gives_more says begun (noes served.batches) at ended false served.asked onward,
+      inr refl,
+    );
   }
 
 -- Batches one after another give what one run gives, and survive a stop.
-pub as_one : {B D : Type 0} (faults : B → Faults) (honest : B → Type 0) (terms : B → Terms)
+pub as_one : {B D E : Type 0} (faults : B → Faults) (honest : B → Type 0) (terms : B → Terms)
     (history committed : B → List Entry) (clean : B → Type 0)
     (may_find : B → Option (List Entry) → Type 0)
     → ((book : B) → honest book → IsLegal (history book) (terms book))
     → ((book : B) → honest book → Grows (committed book) (history book))
     → ((book : B) → honest book → (found : Option (List Entry)) → may_find book found
     → found ≡ Some (committed book))
-    → (gives : D → Option ℕ → D → Type 0) (given : Option ℕ) (old new : Trace × B) (first last : D)
-    (held now : Option (List ℕ)) (count : ℕ) (result : Result JobStatus WriteFault)
-    → ServesOn (IsBatch faults honest terms history committed clean may_find) gives given old new
-    first last held now count result
-    → ServesTurns faults honest terms history committed clean may_find gives given old new first
-    last held now count result
-as_one faults honest terms history committed clean may_find legal first_law found gives given old
-    new first last held now count result on = record {
+    → (gives : D → Option ℕ → D → Type 0) (given : Option ℕ) (says : E → Bool → E → Type 0)
+    (old new : Trace × B) (first last : D) (begun ended : E) (held now : Option (List ℕ)) (count : ℕ)
+    (result : Result JobStatus WriteFault)
+    → ServesOn (IsBatch faults honest terms history committed clean may_find) gives given says old
+    new first last begun ended held now count result
+    → ServesTurns faults honest terms history committed clean may_find gives given says old new first
+    last begun ended held now count result
+as_one faults honest terms history committed clean may_find legal first_law found gives given says
+    old new first last begun ended held now count result on = record {
       serves = on.serves;
       days = on.days;
+      ends = on.ends;
       composed = all_composed faults honest terms history committed clean may_find legal old new
           on.serves.batches on.serves.lead;
       survives = survived faults honest terms history committed clean may_find legal first_law found

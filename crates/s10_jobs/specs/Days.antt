@@ -17,8 +17,7 @@ AreDaysOf days answers (Err fault) = (answers ≡ map Some days) ⊎ (answers �
     ∷ [])
 
 -- The source gave these answers, one after another.
-unfoldable pub Gives : {D : Type 0} → (D → Option ℕ → D → Type 0) → D → List (Option ℕ) → D
-    → Type 0
+unfoldable pub Gives : {D A : Type 0} → (D → A → D → Type 0) → D → List A → D → Type 0
 Gives gives old [] new = new ≡ old
 Gives gives old (answer ∷ answers) new = (next : _) × gives old answer next
     × Gives gives next answers new

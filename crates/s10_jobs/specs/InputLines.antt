@@ -58,21 +58,44 @@ delivery_in line = let text = without_return line in parted_at (position (λ b. 
 abbrev pub deliveries_in : List (List ℕ) → List Dated
 deliveries_in lines = filter_map delivery_in lines
 
--- The line with that number, from 1, is refused: it has more than 1,036 bytes, is past line
--- 1,000,000, or is neither empty nor a delivery.
-abbrev pub IsRefused : List ℕ → ℕ → Type 0
-IsRefused line number = (1036 < length line)
-    ⊎ ((1000000 < number) ⊎ ((without_return line ≢ []) × (delivery_in line ≡ None)))
+-- The line with that number, from 1, is past a limit: it has more than 1,036 bytes, or is past line
+-- 1,000,000.
+abbrev pub IsPastLimits : List ℕ → ℕ → Type 0
+IsPastLimits line number = (1036 < length line) ⊎ (1000000 < number)
 
--- None of the lines is refused.
-abbrev pub NoneRefused : List (List ℕ) → Type 0
-NoneRefused lines = (k : ℕ) (line : List ℕ) → slice_get lines k ≡ Some line
-    → ¬ IsRefused line (k + 1)
+-- The line with that number is no line of a replay: it is past a limit, or is neither empty nor a
+-- delivery.
+abbrev pub IsNoDelivery : List ℕ → ℕ → Type 0
+IsNoDelivery line number = IsPastLimits line number
+    ⊎ ((without_return line ≢ []) × (delivery_in line ≡ None))
 
--- The line with that number is the first that is refused.
-pub record IsFirstRefused (lines : List (List ℕ)) (number : ℕ) : Type 0 where
-  pub line : List ℕ
-  pub there : slice_get lines (number - 1) ≡ Some line
-  pub counted : 0 < number
-  pub refused : IsRefused line number
-  pub none_before : NoneRefused (take (number - 1) lines)
+-- `Refuses` says which line with which number is refused.
+module _ (Refuses : List ℕ → ℕ → Type 0) where
+  -- None of the lines is refused.
+  abbrev pub NoneRefused : List (List ℕ) → Type 0
+  NoneRefused lines = (k : ℕ) (line : List ℕ) → slice_get lines k ≡ Some line
+      → ¬ Refuses line (k + 1)
+
+  -- The line with that number is the first that is refused.
+  pub record IsFirstRefused (lines : List (List ℕ)) (number : ℕ) : Type 0 where
+    pub line : List ℕ
+    pub there : slice_get lines (number - 1) ≡ Some line
+    pub counted : 0 < number
+    pub refused : Refuses line number
+    pub none_before : NoneRefused (take (number - 1) lines)
+
+-- A text before its first space. Without a space it is the whole text.
+abbrev pub word_before : Option ℕ → List ℕ → List ℕ
+word_before None text = text
+word_before (Some at) text = take at text
+
+-- A text after its first space. Without a space nothing is after it.
+abbrev pub rest_after : Option ℕ → List ℕ → List ℕ
+rest_after None text = []
+rest_after (Some at) text = drop (at + 1) text
+
+abbrev pub first_word : List ℕ → List ℕ
+first_word text = word_before (position (λ b. b == 32) text) text
+
+abbrev pub after_word : List ℕ → List ℕ
+after_word text = rest_after (position (λ b. b == 32) text) text

@@ -27,8 +27,8 @@ any_address = record { ip = 0 ∷ 0 ∷ 0 ∷ 0 ∷ []; port = 0 }
 -- No call was made: the first text that cannot be read is refused; otherwise no socket was bound.
 abbrev pub IsUnasked : Question → JobStatus → List ℕ → Type 0
 IsUnasked question status line =
-    ((refusal : Refusal) × IsQuestionRefusal question refusal × (status ≡ Refused)
-    × (line ≡ refused_line (refusal_words refusal)))
+    ((refusal : Refusal) × IsQuestionRefusal question.to.now question.body refusal
+    × (status ≡ Refused) × (line ≡ refused_line (refusal_words refusal)))
     ⊎ ((to : Peer) × (body : Body) × SpellsPeer question.to.now to × WordsAsk question.body body
     × (status ≡ Failed) × (line ≡ line_of (codes "link") (codes "bind" ∷ [])))
 

@@ -12,7 +12,6 @@ use Rattle.s10_jobs.specs.declared.refusal.Refusal.TheVariants as refused
 use Rattle.s10_jobs.specs.declared.body_words.BodyWords.{BodyWords}
 use Rattle.s10_jobs.specs.declared.body_words.BodyWords.TheVariants.{Grant, Draw, DrawMany}
 use Rattle.s10_jobs.specs.declared.body_words.BodyWords.TheVariants.{Withdraw, Void, Query}
-use Rattle.s10_jobs.specs.declared.question.Question.{Question}
 use Rattle.s10_jobs.specs.Words.{text_fault_words}
 use Rattle.s10_jobs.specs.Lines.{AreTwoCapitals}
 
@@ -67,11 +66,9 @@ abbrev pub IsPeerText : List ℕ → Type 0
 IsPeerText text = (p : Peer) × SpellsPeer text p
 
 -- The address of the server is read before the body.
-abbrev pub IsQuestionRefusal : Question → Refusal → Type 0
-IsQuestionRefusal question refused.Peer = ¬ IsPeerText question.to.now
-IsQuestionRefusal question refused.Service = IsPeerText question.to.now
-    × IsBodyRefusal question.body refused.Service
-IsQuestionRefusal question refused.Country = IsPeerText question.to.now
-    × IsBodyRefusal question.body refused.Country
-IsQuestionRefusal question (refused.Text fault) = IsPeerText question.to.now
-    × IsBodyRefusal question.body (refused.Text fault)
+abbrev pub IsQuestionRefusal : List ℕ → BodyWords → Refusal → Type 0
+IsQuestionRefusal to words refused.Peer = ¬ IsPeerText to
+IsQuestionRefusal to words refused.Service = IsPeerText to × IsBodyRefusal words refused.Service
+IsQuestionRefusal to words refused.Country = IsPeerText to × IsBodyRefusal words refused.Country
+IsQuestionRefusal to words (refused.Text fault) = IsPeerText to
+    × IsBodyRefusal words (refused.Text fault)

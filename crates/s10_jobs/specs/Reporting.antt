@@ -1,5 +1,5 @@
 -- What a report prints.
-use Rattle.std.specs.Prelude.{◌≡◌, ℕ, ◌⊎◌, List, ◌++◌, take, codes, Option}
+use Rattle.std.specs.Prelude.{◌≡◌, ℕ, ◌⊎◌, List, ◌++◌, take, codes, Option, nat_abs}
 use Rattle.std.specs.Io.KnownBytes.{Appends}
 use Rattle.s10_lines.specs.Lines.{line_of}
 use Rattle.s10_history.specs.declared.entry.Entry.{Entry}
@@ -7,18 +7,31 @@ use Rattle.s10_book.specs.declared.book_fault.BookFault.{BookFault}
 use Rattle.s10_book.specs.declared.faults.Faults.{Faults}
 use Rattle.s10_book.specs.BookFault.{CountsBookFault}
 use Rattle.s10_history.specs.Settings.{Terms}
+use Rattle.s10_rows.specs.Tables.{head_row}
 use Rattle.s10_reports.specs.Reports.{joined, ranges_report, issues_report}
+use Rattle.s10_reports.specs.Info.{info_report}
+use Rattle.s10_jobs.specs.declared.report_kind.ReportKind.{ReportKind}
+use Rattle.s10_jobs.specs.declared.report_kind.ReportKind.TheVariants.{Ranges as OfRanges}
+use Rattle.s10_jobs.specs.declared.report_kind.ReportKind.TheVariants.{Issues as OfIssues}
+use Rattle.s10_jobs.specs.declared.report_kind.ReportKind.TheVariants.{Info as OfLedger}
 use Rattle.s10_jobs.specs.declared.reporting.Report.{Report}
-use Rattle.s10_jobs.specs.declared.reporting.Report.TheVariants.{Ranges, Issues}
+use Rattle.s10_jobs.specs.declared.reporting.Report.TheVariants.{Ranges, Issues, Info}
 use Rattle.s10_jobs.specs.declared.job_status.JobStatus.{JobStatus}
 use Rattle.s10_jobs.specs.declared.job_status.JobStatus.TheVariants.{Done, Refused, CommandLine}
 use Rattle.s10_jobs.specs.declared.job_status.JobStatus.TheVariants.{Failed}
 use Rattle.s10_jobs.specs.Words.{book_fault_words}
 
+-- The report of a kind on a day. That of the issues has no day.
+abbrev pub report_on : ReportKind → ℕ → Report
+report_on OfRanges day = Ranges day
+report_on OfIssues day = Issues
+report_on OfLedger day = Info day
+
 -- The lines of a report of a history.
 abbrev pub report_lines : Report → List Entry → Terms → List (List ℕ)
 report_lines (Ranges day) h t = ranges_report h day t.interval
 report_lines Issues h t = issues_report h
+report_lines (Info day) h t = info_report (nat_abs (head_row t).schema) h day t
 
 -- The first n lines of the report, then the fault of the book that ended it. The book counted that
 -- fault.

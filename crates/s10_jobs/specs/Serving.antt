@@ -1,5 +1,6 @@
 -- The turns of a server on a link, in batches one after another.
-use Rattle.std.specs.Prelude.{◌≡◌, ℕ, ◌<◌, ◌≤◌, List, ◌++◌, length, codes, Option, Result, IfOk}
+use Rattle.std.specs.Prelude.{◌≡◌, ℕ, ◌<◌, ◌≤◌, Bool, List, ◌++◌, length, codes, Option, Result}
+use Rattle.std.specs.Prelude.{IfOk}
 use Rattle.std.specs.List.{flat_map}
 use Rattle.std.specs.Io.KnownBytes.{Appends}
 use Rattle.s10_lines.specs.declared.write_fault.WriteFault.{WriteFault}
@@ -14,12 +15,13 @@ use Rattle.s10_jobs.specs.declared.job_status.JobStatus.{JobStatus}
 use Rattle.s10_jobs.specs.declared.job_status.JobStatus.TheVariants.{Done, Refused, CommandLine}
 use Rattle.s10_jobs.specs.declared.job_status.JobStatus.TheVariants.{Failed}
 use Rattle.s10_jobs.specs.Days.{AreTaken}
+use Rattle.s10_jobs.specs.Ending.{AreEnded}
 use Rattle.s10_jobs.specs.TurnLines.{turn_line}
 
--- The lines of all turns. If the source gave no day, there are fewer turns, then the line `clock`.
+-- The lines of all turns. If the source gave no day, there are fewer turns than `count`, then the
+-- line `clock`.
 abbrev pub PrintsTurns : Option (List ℕ) → Option (List ℕ) → List Turn → ℕ → JobStatus → Type 0
-PrintsTurns held now turns count Done = (length turns ≡ count)
-    × Appends held now (flat_map turn_line turns)
+PrintsTurns held now turns count Done = Appends held now (flat_map turn_line turns)
 PrintsTurns held now turns count Refused = ⊥
 PrintsTurns held now turns count CommandLine = ⊥
 PrintsTurns held now turns count Failed = (length turns < count)
@@ -37,21 +39,23 @@ pub record Serves {S : Type 0} (IsStep : S → DatedBatch → S → Type 0) (old
 module _ {B : Type 0} (faults : B → Faults) (honest : B → Type 0) (terms : B → Terms)
     (history committed : B → List Entry) (clean : B → Type 0)
     (may_find : B → Option (List Entry) → Type 0) where
-  -- At most `count` turns of a server, in batches on the given day, or each on the next day that a
-  -- source gives. If the book is honest after them, they give what one run over all their datagrams
-  -- gives. If it is clean after them and was honest after some of them, an opening after a stop
-  -- finds each call whose reply these sent.
-  pub record ServesTurns {D : Type 0} (gives : D → Option ℕ → D → Type 0) (given : Option ℕ)
-      (old new : Trace × B) (before after : D) (held now : Option (List ℕ)) (count : ℕ)
-      (result : Result JobStatus WriteFault) : Type 0 where
-    pub serves : Serves (IsBatch faults honest terms history committed clean may_find) old new held
-        now count result
-    pub days : AreTaken gives given (days_of serves.batches) result before after
-    pub composed : honest new.1 → ServesAll faults honest terms history committed clean may_find
-        old.1 new.1
-        (deliveries_in faults honest terms history committed clean may_find old new serves.batches
-        serves.lead)
-        (answers_in faults honest terms history committed clean may_find old new serves.batches
-        serves.lead)
-        (turns_in serves.batches)
-    pub survives : SurvivesStop faults honest terms history committed clean may_find old new
+  -- The turns of a server, `count` of them unless a source of ends ends them, in batches on the given
+  -- day, or each on the next day that a source gives. If the book is honest after them, they give
+  -- what one run over all their datagrams gives. If it is clean after them and was honest after some
+  -- of them, an opening after a stop finds each call whose reply these sent.
+  pub record ServesTurns {D E : Type 0} (gives : D → Option ℕ → D → Type 0) (given : Option ℕ)
+      (says : E → Bool → E → Type 0) (old new : Trace × B) (before after : D) (begun ended : E)
+      (held now : Option (List ℕ)) (count : ℕ) (result : Result JobStatus WriteFault) : Type 0
+    where
+      pub serves : Serves (IsBatch faults honest terms history committed clean may_find) old new held
+          now count result
+      pub days : AreTaken gives given (days_of serves.batches) result before after
+      pub ends : AreEnded says serves.batches count result begun ended
+      pub composed : honest new.1 → ServesAll faults honest terms history committed clean may_find
+          old.1 new.1
+          (deliveries_in faults honest terms history committed clean may_find old new serves.batches
+          serves.lead)
+          (answers_in faults honest terms history committed clean may_find old new serves.batches
+          serves.lead)
+          (turns_in serves.batches)
+      pub survives : SurvivesStop faults honest terms history committed clean may_find old new

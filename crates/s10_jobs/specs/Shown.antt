@@ -1,5 +1,6 @@
 -- The line that `show` prints of a datagram.
-use Rattle.std.specs.Prelude.{◌≡◌, ℕ, nat_le, Bool, ◌&&◌, List, length, Option, MatchBool}
+use Rattle.std.specs.Prelude.{◌≡◌, ℕ, nat_le, Bool, ◌&&◌, List, [], ◌∷◌, length, codes, Option}
+use Rattle.std.specs.Prelude.{None, Some, MatchBool}
 use Rattle.std.specs.Io.KnownBytes.{Appends}
 use Rattle.s10_wire.specs.declared.request.Request.{Request}
 use Rattle.s10_wire.specs.declared.outcome.Outcome.{Outcome}
@@ -12,6 +13,7 @@ use Rattle.s10_jobs.specs.declared.job_status.JobStatus.TheVariants.{Done, Refus
 use Rattle.s10_jobs.specs.declared.job_status.JobStatus.TheVariants.{Failed}
 use Rattle.s10_jobs.specs.Words.{wire_fault_words}
 use Rattle.s10_jobs.specs.Lines.{refused_line}
+use Rattle.s10_jobs.specs.InputLines.{bytes_in}
 
 -- The kind byte exists, and is that of a reply.
 abbrev pub is_marked_reply : List ℕ → Bool
@@ -41,6 +43,11 @@ abbrev pub IsShown : List ℕ → JobStatus → List ℕ → Type 0
 IsShown bytes status line =
     MatchBool (is_marked_reply bytes) (IsReplyShown bytes status line)
     (IsRequestShown bytes status line)
+
+-- What `show` prints for hexadecimal digits, with its status.
+pub record IsShownByDigits (digits : List ℕ) (status : JobStatus) (line : List ℕ) : Type 0 where
+  pub hex : bytes_in digits ≡ None → (status ≡ Refused) × (line ≡ refused_line (codes "hex" ∷ []))
+  pub datagram : (bytes : List ℕ) → bytes_in digits ≡ Some bytes → IsShown bytes status line
 
 -- One such line was written.
 abbrev pub Prints : Option (List ℕ) → Option (List ℕ) → (List ℕ → Type 0) → Type 0

@@ -20,8 +20,8 @@ use Rattle.s10_rows.specs.declared.open_fault.OpenFault.TheVariants.{Store as No
 use Rattle.s10_lines.specs.Lines.{line_of}
 use Rattle.s10_jobs.specs.declared.job_status.JobStatus.{JobStatus}
 use Rattle.s10_jobs.specs.declared.job_status.JobStatus.TheVariants.{Refused, Failed}
-use Rattle.s10_jobs.specs.declared.replay_fault.ReplayFault.{ReplayFault}
-use Rattle.s10_jobs.specs.declared.replay_fault.ReplayFault.TheVariants.{Line, Read, Write}
+use Rattle.s10_jobs.specs.declared.input_fault.InputFault.{InputFault}
+use Rattle.s10_jobs.specs.declared.input_fault.InputFault.TheVariants.{Line, Read, Write}
 
 -- The word of a group.
 abbrev pub group_words : Group → List ℕ
@@ -71,13 +71,13 @@ open_fault_words NoMemory = codes "memory" ∷ []
 open_fault_words NotStored = codes "store" ∷ []
 
 -- A line is counted from 1.
-abbrev pub replay_fault_line : ReplayFault → List ℕ
-replay_fault_line (Line number) = line_of (codes "refused") (codes "line" ∷ decimal number ∷ [])
-replay_fault_line Read = codes "input\n"
-replay_fault_line Write = codes "output\n"
+abbrev pub input_fault_line : InputFault → List ℕ
+input_fault_line (Line number) = line_of (codes "refused") (codes "line" ∷ decimal number ∷ [])
+input_fault_line Read = codes "input\n"
+input_fault_line Write = codes "output\n"
 
 -- A refused line gives `Refused`. Any other fault gives `Failed`.
-abbrev pub replay_fault_status : ReplayFault → JobStatus
-replay_fault_status (Line number) = Refused
-replay_fault_status Read = Failed
-replay_fault_status Write = Failed
+abbrev pub input_fault_status : InputFault → JobStatus
+input_fault_status (Line number) = Refused
+input_fault_status Read = Failed
+input_fault_status Write = Failed

@@ -45,7 +45,7 @@ pub fn ask<L: Link, W: Write>(
     write_call_result(&called, out)
 }
 
-fn write_call_result<W: Write>(
+pub(crate) fn write_call_result<W: Write>(
     called: &Result<Reply, CallFault>,
     out: &mut W,
 ) -> Result<JobStatus, WriteFault>

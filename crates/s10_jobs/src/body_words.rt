@@ -105,10 +105,10 @@ fn read_pair(service: &str, country: &str) -> Result<(Service, Country), Refusal
         × (letters_of pair.1 ≡ country.now)) }
     ensures refused { IfErr result (IsPairRefusal service.now country.now) }
 {
-    let Some(service) = read_service(service) else {
+    let Some(service) = read_service(service.as_bytes()) else {
         return Err(Refusal::Service);
     };
-    let Some(country) = read_country(country) else {
+    let Some(country) = read_country(country.as_bytes()) else {
         return Err(Refusal::Country);
     };
     Ok((service, country))

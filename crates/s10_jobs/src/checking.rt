@@ -1,12 +1,10 @@
 //! Checks an identifier.
 ghost use Rattle.std.specs.Prelude.{◌≡◌, IfOk, IfErr};
 ghost use Rattle.std.specs.Io.KnownBytes.{Appends};
-ghost use Rattle.s10_core.specs.declared.id.Id.{Id};
-ghost use Rattle.s10_core.specs.declared.text_fault.TextFault.{TextFault};
 ghost use Rattle.s10_core.specs.Id.{Spells};
 ghost use Rattle.s10_core.specs.TextFault.{IsFirstRefusal};
-ghost use Rattle.s10_jobs.specs.Words.{text_fault_words};
-ghost use Rattle.s10_jobs.specs.Lines.{text_read, valid_line, refused_line};
+ghost use Rattle.s10_jobs.specs.Lines.{text_read, valid_line, IsChecked};
+ghost use Rattle.s10_jobs.specs.Shown.{Prints};
 
 use crate::job_status::JobStatus;
 use crate::refusals::refuse_text;
@@ -24,14 +22,9 @@ use std::io::Write;
 /// # Errors
 ///
 /// `WriteFault` if the writer fails; part of the line may be written.
-pub fn check<W: Write>(text: &str, is_label: bool, out: &mut W) -> Result<JobStatus, WriteFault>
-    ensures valid { (id : Id) → Spells (text_read is_label text.now) id → IfOk result (λ status.
-        (status ≡ JobStatus.Done) × Appends (W.contents out.old) (W.contents out.new)
-        (valid_line id)) }
-    ensures refused { (fault : TextFault) → IsFirstRefusal (text_read is_label text.now) fault
-        → IfOk result (λ status.
-        (status ≡ JobStatus.Refused) × Appends (W.contents out.old) (W.contents out.new)
-        (refused_line (text_fault_words fault))) }
+pub fn check<W: Write>(text: &[u8], is_label: bool, out: &mut W) -> Result<JobStatus, WriteFault>
+    ensures { IfOk result (λ status. Prints (W.contents out.old) (W.contents out.new)
+        (IsChecked is_label text.now status)) }
 {
     match read(text, is_label) {
         Ok(id) => write_valid(&id, out),
@@ -39,14 +32,14 @@ pub fn check<W: Write>(text: &str, is_label: bool, out: &mut W) -> Result<JobSta
     }
 }
 
-fn read(text: &str, is_label: bool) -> Result<Id, TextFault>
+fn read(text: &[u8], is_label: bool) -> Result<Id, TextFault>
     ensures ok { IfOk result (Spells (text_read is_label text.now)) }
     ensures refused { IfErr result (IsFirstRefusal (text_read is_label text.now)) }
 {
     if is_label {
-        Id::read_label(text.as_bytes())
+        Id::read_label(text)
     } else {
-        Id::read(text.as_bytes())
+        Id::read(text)
     }
 }
 

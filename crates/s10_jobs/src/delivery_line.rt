@@ -67,8 +67,8 @@ pub fn read_bytes(text: &[u8]) -> Option<Packet>
     }
 }
 
-// Returns the index of the first space.
-fn first_space(text: &[u8]) -> Option<usize>
+/// Returns the index of the first space.
+pub fn first_space(text: &[u8]) -> Option<usize>
     ensures place { result ≡ position (λ byte. byte == 32) text.now }
     ensures within { IfSome result (λ place. place < length text.now) }
 {

@@ -1,5 +1,8 @@
 //! Lists the jobs that a command line asks for.
+use crate::noted_question::NotedQuestion;
 use crate::question::Question;
+use crate::report_kind::ReportKind;
+use crate::tries::Tries;
 use s10_history::Settings;
 
 /// A subcommand that needs files, sockets or the clock, with its texts as they were given.
@@ -12,19 +15,36 @@ pub enum Job<'a> {
         ledger: &'a str,
         settings: Settings,
     },
-    /// A server of a ledger, for `count` turns.
+    /// A server of a ledger, for `count` turns, or until the file `until` is there.
     Serve {
         ledger: &'a str,
         bind: &'a str,
         count: u32,
         day: Option<u32>,
+        until: Option<&'a str>,
     },
     /// A call of a server: `grant`, `draw`, `void`, `query` or `withdraw`.
     Ask(Question<'a>),
-    /// A report of a ledger: of its issues, or of its ranges.
+    /// A call of a server with the next number of notes: `grant`, `draw`, `void`, `query` or
+    /// `withdraw`.
+    AskByNotes(NotedQuestion<'a>),
+    /// The creation of the notes of a client, with the numbers `first` to `last`.
+    Notes {
+        file: &'a str,
+        customer: u32,
+        first: u32,
+        last: u32,
+    },
+    /// The open request of notes, asked again.
+    Again {
+        to: &'a str,
+        notes: &'a str,
+        tries: Tries,
+    },
+    /// A report of a ledger.
     Report {
         ledger: &'a str,
-        is_of_issues: bool,
+        kind: ReportKind,
         day: Option<u32>,
     },
     /// An audit of a ledger.

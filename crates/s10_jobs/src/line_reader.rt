@@ -9,6 +9,9 @@ use std::io::{ErrorKind, Read};
 /// The maximum length of a line in bytes, without its line feed.
 pub const MAX_LINE: usize = 1036;
 
+/// The maximum number of lines of an input, empty ones included.
+pub const MAX_LINES: u32 = 1_000_000;
+
 /// The next line of an input.
 #[derive(Clone, Copy)]
 pub enum NextLine {

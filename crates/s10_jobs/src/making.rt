@@ -1,8 +1,7 @@
 //! Makes an identifier from its parts.
-ghost use Rattle.std.specs.Prelude.{◌≡◌, [], ◌∷◌, codes, IfOk};
-ghost use Rattle.std.specs.Io.KnownBytes.{Appends};
-ghost use Rattle.s10_core.specs.Serial.{AreEightDigits};
-ghost use Rattle.s10_jobs.specs.Lines.{AreTwoCapitals, made_line, refused_line};
+ghost use Rattle.std.specs.Prelude.{IfOk};
+ghost use Rattle.s10_jobs.specs.Lines.{IsMade};
+ghost use Rattle.s10_jobs.specs.Shown.{Prints};
 
 use crate::job_status::JobStatus;
 use crate::parts::{read_country, read_service};
@@ -20,32 +19,18 @@ use std::io::Write;
 ///
 /// `WriteFault` if the writer fails; part of the line may be written.
 pub fn make<W: Write>(
-    service: &str,
-    serial: &str,
-    country: &str,
+    service: &[u8],
+    serial: &[u8],
+    country: &[u8],
     out: &mut W,
 ) -> Result<JobStatus, WriteFault>
-    ensures made { AreTwoCapitals service.now → AreEightDigits serial.now
-        → AreTwoCapitals country.now → IfOk result (λ status.
-        (status ≡ JobStatus.Done)
-        × Appends (W.contents out.old) (W.contents out.new)
-        (made_line service.now serial.now country.now)) }
-    ensures service { ¬ AreTwoCapitals service.now → IfOk result (λ status.
-        (status ≡ JobStatus.Refused) × Appends (W.contents out.old) (W.contents out.new)
-        (refused_line (codes "service" ∷ []))) }
-    ensures serial { AreTwoCapitals service.now → ¬ AreEightDigits serial.now
-        → IfOk result (λ status.
-        (status ≡ JobStatus.Refused) × Appends (W.contents out.old) (W.contents out.new)
-        (refused_line (codes "serial" ∷ []))) }
-    ensures country { AreTwoCapitals service.now → AreEightDigits serial.now
-        → ¬ AreTwoCapitals country.now → IfOk result (λ status.
-        (status ≡ JobStatus.Refused) × Appends (W.contents out.old) (W.contents out.new)
-        (refused_line (codes "country" ∷ []))) }
+    ensures { IfOk result (λ status. Prints (W.contents out.old) (W.contents out.new)
+        (IsMade service.now serial.now country.now status)) }
 {
     let Some(service) = read_service(service) else {
         return refuse(b"service", out);
     };
-    let Some(serial) = Serial::read(serial.as_bytes()) else {
+    let Some(serial) = Serial::read(serial) else {
         return refuse(b"serial", out);
     };
     let Some(country) = read_country(country) else {

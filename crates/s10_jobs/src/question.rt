@@ -1,6 +1,7 @@
 //! Reads a request from the words of a command line.
 
 use crate::body_words::BodyWords;
+use crate::question_texts::read_texts;
 use crate::refusal::Refusal;
 use crate::tries::Tries;
 use s10_link::Peer;
@@ -37,12 +38,8 @@ impl Question<'_> {
     pub fn read(&self) -> Result<(Peer, Body), Refusal>
         ensures ok { IfOk result (λ read. SpellsPeer self.now.to.now read.0
             × WordsAsk self.now.body read.1) }
-        ensures refused { IfErr result (IsQuestionRefusal self.now) }
+        ensures refused { IfErr result (IsQuestionRefusal self.now.to.now self.now.body) }
     {
-        let Some(to) = Peer::read(self.to.as_bytes()) else {
-            return Err(Refusal::Peer);
-        };
-        let body = self.body.read()?;
-        Ok((to, body))
+        read_texts(self.to, &self.body)
     }
 }

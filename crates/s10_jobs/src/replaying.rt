@@ -3,30 +3,27 @@ ghost use Rattle.std.specs.Prelude.{[], ℕ, List, Option, Result, IfSome};
 ghost use Rattle.s10_history.specs.declared.entry.Entry.{Entry};
 ghost use Rattle.s10_ends.specs.Server.{book_of};
 ghost use Rattle.s10_jobs.specs.Replay.{Replayed, ReportsReplay};
-ghost use Rattle.s10_jobs.specs.declared.replay_fault.ReplayFault.{ReplayFault};
+ghost use Rattle.s10_jobs.specs.declared.input_fault.InputFault.{InputFault};
 
 use crate::answer_line::write_answer;
 use crate::delivery_line::{read_delivery, without_return};
+use crate::input_fault::{InputFault, write_input_fault};
 use crate::job_status::JobStatus;
-use crate::line_reader::{MAX_LINE, NextLine, next_byte, read_line};
-use crate::replay_fault::{ReplayFault, write_replay_fault};
+use crate::line_reader::{MAX_LINE, MAX_LINES, NextLine, next_byte, read_line};
 use s10_book::Book;
 use s10_ends::Server;
 use s10_history::Settings;
-use s10_index::IndexedBook;
+use s10_index::{HashSeed, IndexedBook};
 use s10_lines::WriteFault;
 use std::alloc::Global;
 use std::io::{Read, Write};
-
-/// The maximum number of lines of an input, empty ones included.
-const MAX_LINES: u32 = 1_000_000;
 
 /// Passes the datagrams of an input to a server, writes a line for each answer, and returns the
 /// number of answers.
 ///
 /// An input line is DAY, one space, HEX. DAY has one to ten digits, and is at most 4294967295. HEX
 /// is an even number of hexadecimal digits, 0 to 1024. A carriage return at the end of a line is
-/// ignored, and so is an empty line. An input has at most 1000000 lines of at most [`MAX_LINE`]
+/// ignored, and so is an empty line. An input has at most [`MAX_LINES`] lines of at most [`MAX_LINE`]
 /// bytes, so a replay ends on any reader. An interrupted read is tried again.
 ///
 /// # Errors
@@ -39,7 +36,7 @@ pub fn replay_on<B: Book, R: Read, W: Write>(
     server: &mut Server<B>,
     input: &mut R,
     output: &mut W,
-) -> Result<u32, ReplayFault>
+) -> Result<u32, InputFault>
     ensures was_honest { B.honest (book_of server.new) → B.honest (book_of server.old) }
     ensures replayed { B.honest (book_of server.new)
         → IfSome (R.remaining input.old) (λ bytes. IfSome (W.contents output.old) (λ held.
@@ -51,11 +48,11 @@ pub fn replay_on<B: Book, R: Read, W: Write>(
     let mut count = 0;
     for done in 0..MAX_LINES {
         let Ok(next) = read_line(input, &mut buffer) else {
-            return Err(ReplayFault::Read);
+            return Err(InputFault::Read);
         };
         let len = match next {
             NextLine::End => return Ok(count),
-            NextLine::Long => return Err(ReplayFault::Line(done + 1)),
+            NextLine::Long => return Err(InputFault::Line(done + 1)),
             NextLine::Whole(len) => len,
         };
         let line = &buffer[..len];
@@ -63,18 +60,18 @@ pub fn replay_on<B: Book, R: Read, W: Write>(
             Some(delivery) => {
                 let answer = server.handle(delivery.packet.bytes(), delivery.day);
                 let Ok(()) = write_answer(&answer, output) else {
-                    return Err(ReplayFault::Write);
+                    return Err(InputFault::Write);
                 };
                 count += 1;
             }
             None if without_return(line).is_empty() => {}
-            None => return Err(ReplayFault::Line(done + 1)),
+            None => return Err(InputFault::Line(done + 1)),
         }
     }
     match next_byte(input) {
         Ok(None) => Ok(count),
-        Ok(Some(_byte)) => Err(ReplayFault::Line(MAX_LINES + 1)),
-        Err(_) => Err(ReplayFault::Read),
+        Ok(Some(_byte)) => Err(InputFault::Line(MAX_LINES + 1)),
+        Err(_) => Err(InputFault::Read),
     }
 }
 
@@ -91,12 +88,12 @@ pub fn replay<R: Read, W: Write>(
     settings: Settings,
     input: &mut R,
     output: &mut W,
-) -> Result<u32, ReplayFault>
+) -> Result<u32, InputFault>
     ensures { IfSome (R.remaining input.old) (λ bytes. IfSome (W.contents output.old) (λ held.
         (after : List Entry) × Replayed [] settings bytes (R.remaining input.new) held
         (W.contents output.new) result after)) }
 {
-    let book = IndexedBook::new(alloc, settings);
+    let book = IndexedBook::new(alloc, HashSeed::fixed(), settings);
     let mut server = Server::new(book);
     replay_on(&mut server, input, output)
 }
@@ -115,12 +112,12 @@ pub fn run_replay<R: Read, W: Write>(
     output: &mut W,
 ) -> Result<JobStatus, WriteFault>
     ensures { IfSome (R.remaining input.old) (λ bytes. IfSome (W.contents output.old) (λ held.
-        (after : List Entry) × (replayed : Result ℕ ReplayFault) × (between : Option (List ℕ))
+        (after : List Entry) × (replayed : Result ℕ InputFault) × (between : Option (List ℕ))
         × Replayed [] settings bytes (R.remaining input.new) held between replayed after
         × ReportsReplay replayed between (W.contents output.new) result)) }
 {
     match replay(alloc, settings, input, output) {
         Ok(_) => Ok(JobStatus::Done),
-        Err(fault) => write_replay_fault(fault, output),
+        Err(fault) => write_input_fault(fault, output),
     }
 }

@@ -8,6 +8,7 @@ ghost use Rattle.s10_jobs.specs.Unbound.{IsUnbound};
 
 use crate::binding::bind_link;
 use crate::days::Days;
+use crate::ending::Ending;
 use crate::failures::fail_by_link;
 use crate::job_status::JobStatus;
 use crate::turns::serve_turns;
@@ -20,7 +21,8 @@ use std::io::Write;
 use std::net::Net;
 use std::time::Clock;
 
-/// Serves `count` turns of a book at an address, and returns the status and the book.
+/// Serves `count` turns of a book at an address, or fewer if the source of ends says so, and returns
+/// the status and the book.
 ///
 /// Also returns the link, or `None` if the address cannot be bound. Standard error has the address
 /// that is served, or the reason why it cannot be bound. If no day is given, each batch takes the
@@ -29,12 +31,13 @@ use std::time::Clock;
 /// # Errors
 ///
 /// The first component is `WriteFault` if the writer fails. The book is returned in every case.
-pub fn serve_at<R, B, D, W>(
+pub fn serve_at<R, B, D, E, W>(
     rt: &R,
     alloc: Global,
     at: Peer,
     book: B,
     days: &mut D,
+    ends: &mut E,
     count: u32,
     day: Option<u32>,
     out: &mut W,
@@ -43,12 +46,13 @@ where
     R: Net + Clock + Eprint,
     B: GroupCommit + LastFailure,
     D: Days,
+    E: Ending,
     W: Write,
     ensures unbound { result.1 ≡ None → IsUnbound book result.2 (W.contents out.old)
-        (W.contents out.new) result.0 × (days.new ≡ days.old) }
+        (W.contents out.new) result.0 × (days.new ≡ days.old) × (ends.new ≡ ends.old) }
     ensures served { IfSome result.1
         (λ link. ServesTurns B.faults B.honest B.terms B.history B.committed B.clean B.may_find D.gives
-        day (new_trace, book) (link.trace, result.2) days.old days.new
+        day E.says (new_trace, book) (link.trace, result.2) days.old days.new ends.old ends.new
         (W.contents out.old) (W.contents out.new) count result.0) }
     ensures at { IfSome result.1 (λ link. IsBoundAt at link.at) }
 {
@@ -58,7 +62,17 @@ where
     };
     eprint_address(rt, link.local());
     let mut server = Server::new(book);
-    let served = serve_turns(rt, alloc, &mut server, &mut link, days, count, day, out);
+    let served = serve_turns(
+        rt,
+        alloc,
+        &mut server,
+        &mut link,
+        days,
+        ends,
+        count,
+        day,
+        out,
+    );
     (served, Some(link), server.into_book())
 }
 

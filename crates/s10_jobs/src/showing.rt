@@ -1,10 +1,7 @@
 //! Shows a datagram as a line.
-ghost use Rattle.std.specs.Prelude.{◌≡◌, ℕ, List, [], ◌∷◌, codes, IfOk, None, Some};
-ghost use Rattle.std.specs.Io.KnownBytes.{Appends};
-ghost use Rattle.s10_jobs.specs.Lines.{refused_line};
-ghost use Rattle.s10_jobs.specs.InputLines.{bytes_in};
+ghost use Rattle.std.specs.Prelude.{◌≡◌, IfOk};
 ghost use Rattle.s10_jobs.specs.Shown.{is_marked_reply, IsRequestShown, IsReplyShown, IsShown};
-ghost use Rattle.s10_jobs.specs.Shown.{Prints};
+ghost use Rattle.s10_jobs.specs.Shown.{IsShownByDigits, Prints};
 
 use crate::delivery_line::read_bytes;
 use crate::job_status::JobStatus;
@@ -21,13 +18,11 @@ use std::io::Write;
 /// # Errors
 ///
 /// `WriteFault` if the writer fails; part of the line may be written.
-pub fn show<W: Write>(text: &str, out: &mut W) -> Result<JobStatus, WriteFault>
-    ensures hex { bytes_in text.now ≡ None → IfOk result (λ status. (status ≡ JobStatus.Refused)
-        × Appends (W.contents out.old) (W.contents out.new) (refused_line (codes "hex" ∷ []))) }
-    ensures datagram { (bytes : List ℕ) → bytes_in text.now ≡ Some bytes → IfOk result (λ status.
-        Prints (W.contents out.old) (W.contents out.new) (IsShown bytes status)) }
+pub fn show<W: Write>(text: &[u8], out: &mut W) -> Result<JobStatus, WriteFault>
+    ensures { IfOk result (λ status. Prints (W.contents out.old) (W.contents out.new)
+        (IsShownByDigits text.now status)) }
 {
-    match read_bytes(text.as_bytes()) {
+    match read_bytes(text) {
         Some(packet) => show_datagram(packet.bytes(), out),
         None => refuse(b"hex", out),
     }

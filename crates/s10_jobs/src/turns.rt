@@ -10,6 +10,7 @@ ghost use Rattle.s10_jobs.specs.Serving.{ServesTurns};
 
 use crate::days::{Days, next_day};
 use crate::drop_log::DropLog;
+use crate::ending::Ending;
 use crate::failure_log::FailureLog;
 use crate::failures::fail_by_clock;
 use crate::job_status::JobStatus;
@@ -33,6 +34,9 @@ use std::time::Clock;
 /// From the first batch to the last, each distinct request that arrived is applied once, in order
 /// of first arrival, and the call of each reply that was sent is committed.
 ///
+/// Before each batch the source of ends is asked once. If it says so, the turns end before their
+/// count, with the status `Done`. Calls may still be pending then: closing the book commits them.
+///
 /// If no day is given, the source of days is asked once before each batch. If it gives no day, the
 /// turns end with the line `clock`. The status is `Done`, or `Failed` after `clock`.
 ///
@@ -40,20 +44,29 @@ use std::time::Clock;
 ///
 /// `WriteFault` if the writer fails. A batch whose lines fail was served, and part of them may be
 /// written.
-pub fn serve_turns<R: Clock + Eprint, B: GroupCommit + LastFailure, L: Link, D: Days, W: Write>(
+pub fn serve_turns<R, B, L, D, E, W>(
     rt: &R,
     alloc: Global,
     server: &mut Server<B>,
     link: &mut L,
     days: &mut D,
+    ends: &mut E,
     count: u32,
     day: Option<u32>,
     out: &mut W,
 ) -> Result<JobStatus, WriteFault>
+where
+    R: Clock + Eprint,
+    B: GroupCommit + LastFailure,
+    L: Link,
+    D: Days,
+    E: Ending,
+    W: Write,
     ensures turns { ServesTurns B.faults B.honest B.terms B.history B.committed B.clean B.may_find
-        D.gives day
+        D.gives day E.says
         (L.trace_of link.old, book_of server.old) (L.trace_of link.new, book_of server.new)
-        days.old days.new (W.contents out.old) (W.contents out.new) count result }
+        days.old days.new ends.old ends.new (W.contents out.old) (W.contents out.new) count
+        result }
     ensures given { day ≢ None → result ≢ Ok JobStatus.Failed }
     ensures led { LeadsTo L.step link.old link.new }
 {
@@ -61,6 +74,10 @@ pub fn serve_turns<R: Clock + Eprint, B: GroupCommit + LastFailure, L: Link, D: 
     let mut failures = FailureLog::new(rt);
     let mut done = 0;
     while done < count {
+        if ends.is_due() {
+            drops.eprint_rest();
+            return Ok(JobStatus::Done);
+        }
         let Some(today) = next_day(days, day) else {
             return fail_by_clock(out);
         };

@@ -1,6 +1,8 @@
 //! Tests of jobs: calls, reports, turns and their lines.
 
+mod each_line;
 mod many_lines;
+mod notes;
 mod questions;
 mod replays;
 mod reports;

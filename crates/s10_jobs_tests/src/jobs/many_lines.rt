@@ -1,9 +1,9 @@
-//! A replay of the greatest number of lines that an input may have, and of one more.
+//! Inputs with the greatest number of lines that they may have, and with one more.
 
 use s10_book::PlainBook;
 use s10_ends::Server;
 use s10_history::Settings;
-use s10_jobs::{ReplayFault, replay_on};
+use s10_jobs::{InputFault, JobStatus, LineJob, print_each, replay_on};
 use s10_test_help::expect::holds;
 use std::alloc::Global;
 use std::io;
@@ -55,7 +55,7 @@ impl Write for Counting {
 fn is_replayed(
     alloc: Global,
     empty: u32,
-    want: Result<u32, ReplayFault>,
+    want: Result<u32, InputFault>,
     written: u32,
     left: usize,
 ) -> bool {
@@ -68,9 +68,9 @@ fn is_replayed(
 }
 
 /// Number of empty lines, the answer, the number of lines written, and the number of bytes left.
-const LONG_INPUTS: &[(u32, Result<u32, ReplayFault>, u32, usize)] = &[
+const LONG_INPUTS: &[(u32, Result<u32, InputFault>, u32, usize)] = &[
     (999_999, Ok(1), 1, 0),
-    (1_000_000, Err(ReplayFault::Line(1_000_001)), 0, 2),
+    (1_000_000, Err(InputFault::Line(1_000_001)), 0, 2),
 ];
 
 #[test]
@@ -78,5 +78,27 @@ fn the_line_past_the_millionth_is_refused(rt: HostRuntime) {
     for (empty, want, written, left) in LONG_INPUTS {
         let is_replayed = is_replayed(rt.alloc(), *empty, *want, *written, *left);
         assert!(rt; holds(&rt, empty, is_replayed));
+    }
+}
+
+/// Returns whether `show` over `empty` empty lines and the last one has this answer, writes
+/// `written` lines and leaves `left` bytes unread.
+fn is_shown(empty: u32, want: Result<JobStatus, InputFault>, written: u32, left: usize) -> bool {
+    let mut input = Lines { empty, last: LAST };
+    let mut output = Counting { lines: 0 };
+    let end = print_each(LineJob::Show, &mut input, &mut output);
+    end == want && output.lines == written && input.last.len() == left
+}
+
+/// The same for a job that prints a line for each line.
+const LONG_LISTS: &[(u32, Result<JobStatus, InputFault>, u32, usize)] = &[
+    (999_999, Ok(JobStatus::Refused), 1_000_000, 0),
+    (1_000_000, Err(InputFault::Line(1_000_001)), 1_000_000, 2),
+];
+
+#[test]
+fn line_past_the_millionth_has_no_line(rt: HostRuntime) {
+    for (empty, want, written, left) in LONG_LISTS {
+        assert!(rt; holds(&rt, empty, is_shown(*empty, *want, *written, *left)));
     }
 }

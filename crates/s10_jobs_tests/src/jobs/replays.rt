@@ -1,7 +1,7 @@
 //! Replays of inputs over a new ledger.
 
 use s10_history::Settings;
-use s10_jobs::{JobStatus, ReplayFault, replay, run_replay};
+use s10_jobs::{InputFault, JobStatus, replay, run_replay};
 use s10_test_help::expect::{holds, is_text};
 use std::alloc::Global;
 use std::io;
@@ -16,7 +16,7 @@ fn gives<R: Read>(
     alloc: Global,
     settings: Settings,
     input: &mut R,
-    want: Result<u32, ReplayFault>,
+    want: Result<u32, InputFault>,
     text: &str,
 ) -> bool {
     let mut output = Vec::new(alloc);
@@ -25,12 +25,7 @@ fn gives<R: Read>(
 }
 
 /// Returns whether a replay of these bytes has this answer and writes this text.
-fn is_replayed(
-    alloc: Global,
-    mut bytes: &[u8],
-    want: Result<u32, ReplayFault>,
-    text: &str,
-) -> bool {
+fn is_replayed(alloc: Global, mut bytes: &[u8], want: Result<u32, InputFault>, text: &str) -> bool {
     gives(alloc, settings(), &mut bytes, want, text)
 }
 
@@ -136,29 +131,29 @@ dropped length
 }
 
 /// Bytes of an input, and the answer and the text of its replay.
-type Case = (&'static [u8], Result<u32, ReplayFault>, &'static str);
+type Case = (&'static [u8], Result<u32, InputFault>, &'static str);
 
 const SMALL_INPUTS: &[Case] = &[
     (b"", Ok(0), ""),
     (b"20000 ", Ok(1), "dropped short\n"),
     (b"20000 \n", Ok(1), "dropped short\n"),
-    (b"20000 5", Err(ReplayFault::Line(1)), ""),
-    (b"20000", Err(ReplayFault::Line(1)), ""),
-    (b" 53", Err(ReplayFault::Line(1)), ""),
-    (b"20000  53", Err(ReplayFault::Line(1)), ""),
-    (b"2000x 53", Err(ReplayFault::Line(1)), ""),
-    (b"20000 5g", Err(ReplayFault::Line(1)), ""),
-    (b"00000020000 53", Err(ReplayFault::Line(1)), ""),
+    (b"20000 5", Err(InputFault::Line(1)), ""),
+    (b"20000", Err(InputFault::Line(1)), ""),
+    (b" 53", Err(InputFault::Line(1)), ""),
+    (b"20000  53", Err(InputFault::Line(1)), ""),
+    (b"2000x 53", Err(InputFault::Line(1)), ""),
+    (b"20000 5g", Err(InputFault::Line(1)), ""),
+    (b"00000020000 53", Err(InputFault::Line(1)), ""),
     (b"0000020000 53", Ok(1), "dropped short\n"),
     (b"4294967295 53", Ok(1), "dropped short\n"),
-    (b"4294967296 53", Err(ReplayFault::Line(1)), ""),
+    (b"4294967296 53", Err(InputFault::Line(1)), ""),
     // Empty lines are counted and skipped, also with a carriage return.
-    (b"\n\r\n\n20000 x\n", Err(ReplayFault::Line(4)), ""),
+    (b"\n\r\n\n20000 x\n", Err(InputFault::Line(4)), ""),
     (b"\n\r\n\n20000 \r\n", Ok(1), "dropped short\n"),
-    (b"20000 \r\r\n", Err(ReplayFault::Line(1)), ""),
+    (b"20000 \r\r\n", Err(InputFault::Line(1)), ""),
     (
         b"1 \n2 \nx\n4 \n",
-        Err(ReplayFault::Line(3)),
+        Err(InputFault::Line(3)),
         "dropped short\ndropped short\n",
     ),
     (
@@ -215,7 +210,7 @@ const ZEROS: [u8; 1037] = [b'0'; 1037];
 #[test]
 fn longer_line_is_refused_without_reading_more(rt: HostRuntime) {
     let line = ZEROS;
-    let (read, refused) = (ReplayFault::Read, ReplayFault::Line(1));
+    let (read, refused) = (InputFault::Read, InputFault::Line(1));
     assert!(rt;
         holds(
             &rt,
@@ -228,7 +223,7 @@ fn longer_line_is_refused_without_reading_more(rt: HostRuntime) {
 
 #[test]
 fn longer_line_is_refused_at_the_end_of_the_input(rt: HostRuntime) {
-    assert!(rt; is_replayed(rt.alloc(), &ZEROS, Err(ReplayFault::Line(1)), ""));
+    assert!(rt; is_replayed(rt.alloc(), &ZEROS, Err(InputFault::Line(1)), ""));
 }
 
 #[test]
@@ -251,10 +246,10 @@ faulted full
 
 /// A reader that fails after its bytes, and is interrupted three times before each read.
 #[derive(Drop)]
-struct Failing<'a> {
-    bytes: &'a [u8],
+pub(crate) struct Failing<'a> {
+    pub(crate) bytes: &'a [u8],
     /// How often it is interrupted before its next read.
-    interruptions: u32,
+    pub(crate) interruptions: u32,
 }
 
 impl Read for Failing<'_> {
@@ -273,9 +268,9 @@ impl Read for Failing<'_> {
 
 /// A writer that accepts n bytes.
 #[derive(Drop)]
-struct Narrow {
+pub(crate) struct Narrow {
     /// The number of bytes that it still accepts.
-    room: usize,
+    pub(crate) room: usize,
 }
 
 impl Write for Narrow {
@@ -294,7 +289,7 @@ impl Write for Narrow {
 
 /// Returns whether a replay of a reader that fails after these bytes ends with this fault and
 /// writes this text.
-fn is_read_until(alloc: Global, bytes: &[u8], want: ReplayFault, text: &str) -> bool {
+fn is_read_until(alloc: Global, bytes: &[u8], want: InputFault, text: &str) -> bool {
     let mut input = Failing {
         bytes,
         interruptions: 3,
@@ -308,46 +303,46 @@ const SHORT: &str = "dropped short\n";
 /// there, and the text. Nothing is read after a refused line, so answer and fault agree there.
 type Stop = (
     &'static [u8],
-    Result<u32, ReplayFault>,
-    ReplayFault,
+    Result<u32, InputFault>,
+    InputFault,
     &'static str,
 );
 
 const STOPS: &[Stop] = &[
-    (b"", Ok(0), ReplayFault::Read, ""),
-    (b"20000 \n", Ok(1), ReplayFault::Read, SHORT),
-    (b"20000 \n\r\n", Ok(1), ReplayFault::Read, SHORT),
-    (b"\r", Ok(0), ReplayFault::Read, ""),
+    (b"", Ok(0), InputFault::Read, ""),
+    (b"20000 \n", Ok(1), InputFault::Read, SHORT),
+    (b"20000 \n\r\n", Ok(1), InputFault::Read, SHORT),
+    (b"\r", Ok(0), InputFault::Read, ""),
     // The last line is refused, without its line feed and with it.
     (
         b"20000 \n20000 5",
-        Err(ReplayFault::Line(2)),
-        ReplayFault::Read,
+        Err(InputFault::Line(2)),
+        InputFault::Read,
         SHORT,
     ),
     (
         b"20000 \n20000 5\n",
-        Err(ReplayFault::Line(2)),
-        ReplayFault::Line(2),
+        Err(InputFault::Line(2)),
+        InputFault::Line(2),
         SHORT,
     ),
     // A line before others is refused.
     (
         b"20000 5\n20000 \n",
-        Err(ReplayFault::Line(1)),
-        ReplayFault::Line(1),
+        Err(InputFault::Line(1)),
+        InputFault::Line(1),
         "",
     ),
     (
         b"20000 \nx\n",
-        Err(ReplayFault::Line(2)),
-        ReplayFault::Line(2),
+        Err(InputFault::Line(2)),
+        InputFault::Line(2),
         SHORT,
     ),
     (
         b"20000 \n\nx\ny\n20000 ",
-        Err(ReplayFault::Line(3)),
-        ReplayFault::Line(3),
+        Err(InputFault::Line(3)),
+        InputFault::Line(3),
         SHORT,
     ),
 ];
@@ -357,8 +352,8 @@ const STOPS: &[Stop] = &[
 fn stops_there(
     alloc: Global,
     bytes: &[u8],
-    ends: Result<u32, ReplayFault>,
-    fails: ReplayFault,
+    ends: Result<u32, InputFault>,
+    fails: InputFault,
     text: &str,
 ) -> bool {
     is_replayed(alloc, bytes, ends, text) && is_read_until(alloc, bytes, fails, text)
@@ -407,17 +402,17 @@ fn an_input_that_fails_has_its_line_and_status(rt: HostRuntime) {
 }
 
 /// Returns whether a replay of two lines to a writer that accepts `room` bytes has this answer.
-fn is_replayed_into(alloc: Global, room: usize, want: Result<u32, ReplayFault>) -> bool {
+fn is_replayed_into(alloc: Global, room: usize, want: Result<u32, InputFault>) -> bool {
     let mut input: &[u8] = b"20000 \n20000 \n";
     replay(alloc, settings(), &mut input, &mut Narrow { room }) == want
 }
 
 /// The number of bytes that a writer accepts, and the answer of a replay of two lines.
-const ROOMS: &[(usize, Result<u32, ReplayFault>)] = &[
-    (0, Err(ReplayFault::Write)),
-    (13, Err(ReplayFault::Write)),
-    (14, Err(ReplayFault::Write)),
-    (27, Err(ReplayFault::Write)),
+const ROOMS: &[(usize, Result<u32, InputFault>)] = &[
+    (0, Err(InputFault::Write)),
+    (13, Err(InputFault::Write)),
+    (14, Err(InputFault::Write)),
+    (27, Err(InputFault::Write)),
     (28, Ok(2)),
 ];
 

@@ -3,7 +3,7 @@
 use s10_book::{Book, PlainBook, TripBook};
 use s10_ends::Server;
 use s10_history::Settings;
-use s10_jobs::{ClockDays, JobStatus, Report, write_report};
+use s10_jobs::{ClockDays, JobStatus, Report, ReportKind, write_report};
 use s10_lines::WriteFault;
 use s10_test_help::expect::{holds, is_text};
 use s10_test_help::hiccup::Hiccup;
@@ -23,6 +23,30 @@ const RANGES_WITHDRAWN: &str = "range customer service country first last used v
 
 const ISSUES: &str = "arrival day customer number identifier state
 2 20000 7 1 RA000000005GB issued
+";
+
+const INFO: &str = "schema 1
+interval 30
+limit 100
+calls 2
+last-day 20000
+ranges 1
+closed 0
+used 1
+voided 0
+free 2
+";
+
+const INFO_WITHDRAWN: &str = "schema 1
+interval 30
+limit 100
+calls 3
+last-day 20000
+ranges 1
+closed 1
+used 1
+voided 0
+free 0
 ";
 
 /// Returns the book of a grant of three serials and a draw.
@@ -60,13 +84,17 @@ fn is_done<R: Abort + Eprint + AllocGlobal>(rt: &R, book: PlainBook, report: Rep
     );
 }
 
-/// Whether a report is of issues, and its text.
-const REPORTS: &[(bool, &str)] = &[(false, RANGES), (true, ISSUES)];
+/// The kind of a report, and its text.
+const REPORTS: &[(ReportKind, &str)] = &[
+    (ReportKind::Ranges, RANGES),
+    (ReportKind::Issues, ISSUES),
+    (ReportKind::Info, INFO),
+];
 
 #[test]
 fn reports_are_written_whole(rt: HostRuntime) {
-    for (is_of_issues, text) in REPORTS {
-        let report = Report::new(&mut ClockDays { clock: &rt }, *is_of_issues, Some(20_000)).expect(
+    for (kind, text) in REPORTS {
+        let report = Report::new(&mut ClockDays { clock: &rt }, *kind, Some(20_000)).expect(
             &rt, "a day",
         );
         is_done(&rt, one_issue(rt.alloc()), report, text);
@@ -85,6 +113,7 @@ fn one_withdrawn(alloc: Global) -> PlainBook {
 const WITHDRAWN: &[(Report, &str)] = &[
     (Report::Ranges { day: 20_000 }, RANGES_WITHDRAWN),
     (Report::Issues, ISSUES),
+    (Report::Info { day: 20_000 }, INFO_WITHDRAWN),
 ];
 
 #[test]
@@ -94,21 +123,24 @@ fn a_withdrawn_range_is_reported_as_closed(rt: HostRuntime) {
     }
 }
 
-/// Returns whether a report of ranges has the day that is given, or that of the clock if none is.
-fn has_its_day<R: Clock>(rt: &R) -> bool {
-    Report::new(&mut ClockDays { clock: rt }, false, Some(7)) == Some(Report::Ranges { day: 7 })
-        && Report::new(&mut ClockDays { clock: rt }, false, None).is_some()
+/// Returns whether a report of this kind is the report with the day that is given, and has that of
+/// the clock if none is.
+fn has_its_day<R: Clock>(rt: &R, kind: ReportKind, report: Report) -> bool {
+    Report::new(&mut ClockDays { clock: rt }, kind, Some(7)) == Some(report)
+        && Report::new(&mut ClockDays { clock: rt }, kind, None).is_some()
 }
 
 /// Returns whether a report of issues has no day.
 fn has_no_day<R: Clock>(rt: &R) -> bool {
-    Report::new(&mut ClockDays { clock: rt }, true, Some(7)) == Some(Report::Issues)
-        && Report::new(&mut ClockDays { clock: rt }, true, None) == Some(Report::Issues)
+    let kind = ReportKind::Issues;
+    Report::new(&mut ClockDays { clock: rt }, kind, Some(7)) == Some(Report::Issues)
+        && Report::new(&mut ClockDays { clock: rt }, kind, None) == Some(Report::Issues)
 }
 
 #[test]
 fn a_report_has_the_day_that_is_given(rt: HostRuntime) {
-    assert!(rt; has_its_day(&rt));
+    assert!(rt; has_its_day(&rt, ReportKind::Ranges, Report::Ranges { day: 7 }));
+    assert!(rt; has_its_day(&rt, ReportKind::Info, Report::Info { day: 7 }));
     assert!(rt; has_no_day(&rt));
 }
 
@@ -122,6 +154,7 @@ const FAULTED: &[(Report, &str)] = &[
         Report::Issues,
         "arrival day customer number identifier state\nfaulted store\n",
     ),
+    (Report::Info { day: 20_000 }, "faulted store\n"),
 ];
 
 /// Returns whether a report of a book that fails at its first call prints this text.

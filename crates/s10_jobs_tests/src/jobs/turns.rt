@@ -4,7 +4,7 @@ use crate::links::{Meets, link_of};
 use s10_book::{Book, GroupCommit, LastFailure, PlainBook, TripBook};
 use s10_ends::Server;
 use s10_history::Settings;
-use s10_jobs::{ClockDays, Days, JobStatus, next_day, serve_turns, today};
+use s10_jobs::{AtCount, ClockDays, Days, Ending, JobStatus, next_day, serve_turns, today};
 use s10_lines::WriteFault;
 use s10_link::{Link, Peer};
 use s10_test_help::datagrams::{DRAW, GRANT, SECOND_DRAW};
@@ -210,6 +210,7 @@ fn are_as_expected<R: Clock + Eprint, B: GroupCommit + LastFailure, L: Link>(
         server,
         link,
         &mut days,
+        &mut AtCount,
         turns.count,
         turns.day,
         &mut out,
@@ -414,6 +415,7 @@ fn is_shown_of_a_failure(alloc: Global, at: u64, told: &str) -> bool {
         &mut server,
         &mut link,
         &mut days,
+        &mut AtCount,
         7,
         Some(20_000),
         &mut out,
@@ -509,6 +511,7 @@ fn has_the_day_of_its_batch<R: Clock + Eprint>(rt: &R, alloc: Global) -> bool {
         &mut server,
         &mut link,
         &mut days,
+        &mut AtCount,
         7,
         None,
         &mut out,
@@ -519,6 +522,76 @@ fn has_the_day_of_its_batch<R: Clock + Eprint>(rt: &R, alloc: Global) -> bool {
 #[test]
 fn each_batch_reads_the_day_once(rt: HostRuntime) {
     assert!(rt; has_the_day_of_its_batch(&rt, rt.alloc()));
+}
+
+/// A source of ends that says so from the batch `at` on, counted from 0. It counts how often it was
+/// asked.
+#[derive(Drop)]
+struct AtBatch {
+    at: u32,
+    asked: u32,
+}
+
+impl Ending for AtBatch {
+    ghost use Rattle.std.specs.Prelude.{⊤};
+
+    ghost says = { λ old answer new. ⊤ };
+
+    fn is_due(&mut self) -> bool {
+        let is_due = self.asked >= self.at;
+        self.asked = self.asked.saturating_add(1);
+        is_due
+    }
+}
+
+/// Returns whether turns that end at the batch `at` print the first `lines` lines, and ask the source
+/// of ends `asked` times.
+fn ends_at_batch<R: Clock + Eprint>(
+    rt: &R,
+    alloc: Global,
+    at: u32,
+    lines: u32,
+    asked: u32,
+) -> bool {
+    let Ok(mut link) = link_of(alloc, SEVEN, THREE_SENDS) else {
+        return false;
+    };
+    let mut days = ClockDays { clock: rt };
+    let mut ends = AtBatch { at, asked: 0 };
+    let mut server = new_server(alloc);
+    let mut out = Vec::new(alloc);
+    let served = serve_turns(
+        rt,
+        alloc,
+        &mut server,
+        &mut link,
+        &mut days,
+        &mut ends,
+        7,
+        Some(20_000),
+        &mut out,
+    );
+    served == Ok(JobStatus::Done)
+        && out.as_slice() == first_lines(SEVEN_LINES, lines)
+        && ends.asked == asked
+}
+
+/// The batch at which the turns end, the lines printed, and how often the source was asked. The
+/// fourth batch has the last four of the seven turns.
+const ENDS: &[(u32, u32, u32)] = &[
+    (0, 0, 1),
+    (1, 1, 2),
+    (2, 2, 3),
+    (3, 3, 4),
+    (4, 7, 4),
+    (9, 7, 4),
+];
+
+#[test]
+fn turns_end_before_a_batch_if_they_are_due(rt: HostRuntime) {
+    for (at, lines, asked) in ENDS {
+        assert!(rt; holds(&rt, at, ends_at_batch(&rt, rt.alloc(), *at, *lines, *asked)));
+    }
 }
 
 /// Seconds since 1970 began, and the day.
@@ -564,6 +637,7 @@ fn end_where_unwritten<R: Clock + Eprint, B: GroupCommit + LastFailure, L: Link>
         server,
         link,
         &mut days,
+        &mut AtCount,
         7,
         Some(20_000),
         &mut out,

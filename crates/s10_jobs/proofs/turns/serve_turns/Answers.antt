@@ -1,18 +1,19 @@
 use Rattle.std.proofs.Common.{rules, ◌≡◌, ◌≤◌, ◌<◌, ◌+◌, ℕ, [], ◌∷◌, length, arith, subst, ◌∙◌, Option}
+use Rattle.std.specs.Prelude.{Bool}
 use Rattle.s10_link.specs.Link.LeadsTo.{none}
 use Rattle.s10_link.proofs.Led.{led_on}
 use Rattle.s10_ends.specs.Composed.{IsBatch}
 use Rattle.s10_jobs.specs.Days.{IsTaken}
 use Rattle.s10_jobs.proofs.Turning.{none_served, batch_served, batch_unprinted}
-use Rattle.s10_jobs.proofs.Turning.{all_served, served_to_no_day, as_one}
+use Rattle.s10_jobs.proofs.Turning.{all_served, served_to_end, served_to_no_day, as_one}
 use Rattle.s10_jobs.proofs.turns.serve_turns.Goals.{in-Ok+in_ok-print_turns-in-Ok, in-Err+in_ok-print_turns-in-Err}
 use Rattle.s10_jobs.proofs.turns.serve_turns.Goals as goal
 
 pub loop-done-init : goal.loop-done-init
 loop-done-init g c = record {
   few = omega arith;
-  served = none_served _ g.D.Days.gives c.args.day
-      (g.L.Link.trace_of c.args.link.now, c.args.server.now.book) c.args.days.now
+  served = none_served _ g.D.Days.gives c.args.day g.E.Ending.says
+      (g.L.Link.trace_of c.args.link.now, c.args.server.now.book) c.args.days.now c.args.ends.now
       (g.W.Write.contents c.args.out.now);
   led = none;
 }
@@ -32,11 +33,15 @@ fits_in done count most turns room few = omega (arith, room, few)
 pub returns-in_err-print_turns-in-Ok-clause-turns : goal.returns-in_err-print_turns-in-Ok-clause-turns
 returns-in_err-print_turns-in-Ok-clause-turns g c =
     as_one _ _ _ _ _ _ _ g.met.B.Book.legal g.met.B.Book.first g.met.B.Book.found g.D.Days.gives
-    c.args.day _ _ _ _ _ _ _ _
-    (batch_unprinted _ g.D.Days.gives c.args.day _ _ _ _ _ _ _ _ _ c.loop-done.done c.args.count
+    c.args.day g.E.Ending.says _ _ _ _ _ _ _ _ _ _
+    (batch_unprinted _ g.D.Days.gives c.args.day g.E.Ending.says _ _ _ _ _ _ _ _ _ _ _ _
+    c.loop-done.done c.args.count
     c.loop-done.invariant.served
     (record { day = c.in-Some.today; turns = c.in-Ok.turns.items }) c.from_residual.result _
-    c.from_residual.ensures.1 (c.min-most.result, c.in-Ok.ensures.served)
+    c.from_residual.ensures.1
+    (subst (λ (b : Bool). g.E.Ending.says c.loop-done.ends b c.is_due.new.self) c.if-is_due.false
+    c.is_due.ensures)
+    (c.min-most.result, c.in-Ok.ensures.served)
     (subst (λ (d : Option ℕ). IsTaken g.D.Days.gives c.args.day d c.loop-done.days
     c.next_day.new.days) c.in-Some.is c.next_day.ensures)
     (fits_in c.loop-done.done c.args.count c.min-most.result (length c.in-Ok.turns.items)
@@ -46,12 +51,15 @@ returns-in_err-print_turns-in-Ok-clause-turns g c =
 pub returns-in_err-print_turns-in-Err-clause-turns : goal.returns-in_err-print_turns-in-Err-clause-turns
 returns-in_err-print_turns-in-Err-clause-turns g c =
     as_one _ _ _ _ _ _ _ g.met.B.Book.legal g.met.B.Book.first g.met.B.Book.found g.D.Days.gives
-    c.args.day _ _ _ _ _ _ _ _
-    (batch_unprinted _ g.D.Days.gives c.args.day _ _ _ _ _ _ _ _ _ c.loop-done.done c.args.count
+    c.args.day g.E.Ending.says _ _ _ _ _ _ _ _ _ _
+    (batch_unprinted _ g.D.Days.gives c.args.day g.E.Ending.says _ _ _ _ _ _ _ _ _ _ _ _
+    c.loop-done.done c.args.count
     c.loop-done.invariant.served
     (record { day = c.in-Some.today; turns = c.serve_batch_of_one-turn.result ∷ [] })
     c.from_residual-in_err-print_turns-in-Err.result _
     c.from_residual-in_err-print_turns-in-Err.ensures.1
+    (subst (λ (b : Bool). g.E.Ending.says c.loop-done.ends b c.is_due.new.self) c.if-is_due.false
+    c.is_due.ensures)
     (begun_alike (λ at. IsBatch g.B.Book.faults g.B.Book.honest g.B.Book.terms g.B.Book.history
     g.B.Book.committed g.B.Book.clean g.B.Book.may_find at
     (record { day = c.in-Some.today; turns = c.serve_batch_of_one-turn.result ∷ [] }) (
@@ -79,9 +87,11 @@ loop-done-preserved g c = elim c.match-serve_batch.branch [
         few = fits_in c.loop-done.done c.args.count c.min-most.result (length w.in-Ok.turns.items)
             (let few = c.min-most.ensures in let test = c.loop-done-test.true in grind arith)
             w.in-Ok.ensures.few;
-        served = batch_served _ g.D.Days.gives c.args.day _ _ _ _ _ _ _ _ _ c.loop-done.done
-            c.args.count c.loop-done.invariant.served
+        served = batch_served _ g.D.Days.gives c.args.day g.E.Ending.says _ _ _ _ _ _ _ _ _ _ _ _
+            c.loop-done.done c.args.count c.loop-done.invariant.served
             (record { day = c.in-Some.today; turns = w.in-Ok.turns.items })
+            (subst (λ (b : Bool). g.E.Ending.says c.loop-done.ends b c.is_due.new.self) c.if-is_due.false
+            c.is_due.ensures)
             (c.min-most.result, w.in-Ok.ensures.served)
             (subst (λ (d : Option ℕ). IsTaken g.D.Days.gives c.args.day d c.loop-done.days
             c.next_day.new.days) c.in-Some.is c.next_day.ensures)
@@ -91,9 +101,11 @@ loop-done-preserved g c = elim c.match-serve_batch.branch [
   | in-Err+in_ok-print_turns-in-Err w ↦
       rw (w.done-is, w.out-is, w.link-is, w.server-is) (record {
         few = one_fits c.loop-done.done c.args.count c.loop-done-test.true;
-        served = batch_served _ g.D.Days.gives c.args.day _ _ _ _ _ _ _ _ _ c.loop-done.done
-            c.args.count c.loop-done.invariant.served
+        served = batch_served _ g.D.Days.gives c.args.day g.E.Ending.says _ _ _ _ _ _ _ _ _ _ _ _
+            c.loop-done.done c.args.count c.loop-done.invariant.served
             (record { day = c.in-Some.today; turns = w.serve_batch_of_one-turn.result ∷ [] })
+            (subst (λ (b : Bool). g.E.Ending.says c.loop-done.ends b c.is_due.new.self) c.if-is_due.false
+            c.is_due.ensures)
             (begun_alike (λ at. IsBatch g.B.Book.faults g.B.Book.honest g.B.Book.terms
             g.B.Book.history g.B.Book.committed g.B.Book.clean g.B.Book.may_find at
             (record { day = c.in-Some.today; turns = w.serve_batch_of_one-turn.result ∷ [] }) (
@@ -118,21 +130,34 @@ all_done done count few past = omega (arith, few, past)
 pub returns-clause-turns : goal.returns-clause-turns
 returns-clause-turns g c =
     as_one _ _ _ _ _ _ _ g.met.B.Book.legal g.met.B.Book.first g.met.B.Book.found g.D.Days.gives
-    c.args.day _ _ _ _ _ _ c.args.count _
-    (all_served _ g.D.Days.gives c.args.day _ _
+    c.args.day g.E.Ending.says _ _ _ _ _ _ _ _ c.args.count _
+    (all_served _ g.D.Days.gives c.args.day g.E.Ending.says _ _
     (g.L.Link.trace_of c.loop-done.link, c.loop-done.server.book) _ _ c.loop-done.days _ _
-    (g.W.Write.contents c.loop-done.out) c.loop-done.done c.args.count
+    c.loop-done.ends _ _ (g.W.Write.contents c.loop-done.out) c.loop-done.done c.args.count
     c.loop-done.invariant.served
     (all_done c.loop-done.done c.args.count c.loop-done.invariant.few c.loop-done-test.false))
+
+pub returns-then-is_due-clause-turns : goal.returns-then-is_due-clause-turns
+returns-then-is_due-clause-turns g c =
+    as_one _ _ _ _ _ _ _ g.met.B.Book.legal g.met.B.Book.first g.met.B.Book.found g.D.Days.gives
+    c.args.day g.E.Ending.says _ _ _ _ _ _ _ _ c.args.count _
+    (served_to_end _ g.D.Days.gives c.args.day g.E.Ending.says _ _
+    (g.L.Link.trace_of c.loop-done.link, c.loop-done.server.book) _ _ c.loop-done.days _ _ _ _ _
+    (g.W.Write.contents c.loop-done.out) c.loop-done.done c.args.count
+    c.loop-done.invariant.served c.loop-done-test.true
+    (subst (λ (b : Bool). g.E.Ending.says c.loop-done.ends b c.is_due.new.self) c.if-is_due.true
+    c.is_due.ensures))
 
 pub returns-in_default-clause-turns : goal.returns-in_default-clause-turns
 returns-in_default-clause-turns g c =
     as_one _ _ _ _ _ _ _ g.met.B.Book.legal g.met.B.Book.first g.met.B.Book.found g.D.Days.gives
-    c.args.day _ _ _ _ _ _ c.args.count _
-    (served_to_no_day _ g.D.Days.gives c.args.day _ _
-    (g.L.Link.trace_of c.loop-done.link, c.loop-done.server.book) _ _ _ _ _ _ c.loop-done.done
-    c.args.count
+    c.args.day g.E.Ending.says _ _ _ _ _ _ _ _ c.args.count _
+    (served_to_no_day _ g.D.Days.gives c.args.day g.E.Ending.says _ _
+    (g.L.Link.trace_of c.loop-done.link, c.loop-done.server.book) _ _ _ _ _ _ _ _ _
+    c.loop-done.done c.args.count
     c.loop-done.invariant.served c.fail_by_clock.result c.loop-done-test.true
+    (subst (λ (b : Bool). g.E.Ending.says c.loop-done.ends b c.is_due.new.self) c.if-is_due.false
+    c.is_due.ensures)
     (subst (λ (d : Option ℕ). IsTaken g.D.Days.gives c.args.day d c.loop-done.days
     c.next_day.new.days) c.in_default.is c.next_day.ensures)
     c.fail_by_clock.ensures)

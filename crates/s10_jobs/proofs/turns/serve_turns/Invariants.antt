@@ -10,8 +10,9 @@ invariant-loop-done g l = record {
   few : l.done ≤ l.fn.count;
   served : HasServed (IsBatch g.B.Book.faults g.B.Book.honest g.B.Book.terms g.B.Book.history
       g.B.Book.committed g.B.Book.clean g.B.Book.may_find) g.D.Days.gives l.fn.day
+      g.E.Ending.says
       (g.L.Link.trace_of l.fn.link, l.fn.server.book) (g.L.Link.trace_of l.link, l.server.book)
-      l.fn.days l.days (g.W.Write.contents l.fn.out) (g.W.Write.contents l.out) l.done;
+      l.fn.days l.days l.fn.ends l.ends (g.W.Write.contents l.fn.out) (g.W.Write.contents l.out) l.done;
   led : LeadsTo g.L.Link.step l.fn.link l.link;
 }
 

@@ -1,7 +1,7 @@
 use Rattle.std.proofs.Common.{[], ◌∷◌, refl}
 use Rattle.std.specs.Prelude.{codes, decimal}
 use Rattle.s10_lines.proofs.Writing.{Appends-then, words_then}
-use Rattle.s10_jobs.proofs.replay_fault.write_replay_fault.Goals as goal
+use Rattle.s10_jobs.proofs.input_fault.write_input_fault.Goals as goal
 
 pub returns-in-Line : goal.returns-in-Line
 returns-in-Line g c =
