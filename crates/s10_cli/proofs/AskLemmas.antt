@@ -1,12 +1,22 @@
 -- Lemmas about the options that a job needs, and about the job that words ask for.
-use Rattle.std.proofs.Common.{◌≡◌, ◌∙◌, sym, List, [], Option, Some, None, Bool, true, false, refl}
-use Rattle.std.proofs.Common.{subst, nat_eq, slice_index, ◌||◌}
+use Rattle.std.proofs.Common.{◌≡◌, ℕ, sym, ap, List, [], Option, Some, None, Bool, true, false, refl}
+use Rattle.std.proofs.Common.{subst, nat_eq, slice_index, ◌||◌, inl, inr}
 use Rattle.clap.specs.Words.{Row, Text, fault_of, subcommand_of}
 use Rattle.s10_grammar.specs.Grammar.{grammar}
 use Rattle.s10_jobs.specs.declared.job.Job.{Job}
-use Rattle.s10_jobs.specs.declared.job.Job.TheVariants.{Create, Serve, Ask, Report, Audit, Loop}
-use Rattle.s10_cli.specs.Options.{AreCallOptions, Finds}
-use Rattle.s10_cli.specs.Jobs.{AsksFor, AsksInWords, IsNamedJob}
+use Rattle.s10_jobs.specs.declared.job.Job.TheVariants.{Create, Serve, Ask, AskByNotes, Notes}
+use Rattle.s10_jobs.specs.declared.job.Job.TheVariants.{Again, Report, Audit, Loop}
+use Rattle.s10_jobs.specs.declared.report_kind.ReportKind.TheVariants.{Ranges, Issues, Info}
+use Rattle.s10_jobs.specs.declared.body_words.BodyWords.{BodyWords}
+use Rattle.s10_jobs.specs.declared.body_words.BodyWords.TheVariants.{Grant, Draw, DrawMany}
+use Rattle.s10_jobs.specs.declared.body_words.BodyWords.TheVariants.{Withdraw, Void, Query}
+use Rattle.s10_cli.specs.Options.{AreCallOptions}
+use Rattle.s10_cli.specs.Jobs.{AsksFor, AsksInWords, AsksByWords, AsksOrFails, IsNamedJob, status_in}
+use Rattle.s10_cli.specs.Jobs.{IsBodyOf, IsCallOf, is_of_the_post}
+use Rattle.s10_cli.specs.CommandLine.{EndsLine}
+use Rattle.s10_cli.specs.declared.line_end.LineEnd.{LineEnd}
+use Rattle.s10_cli.specs.declared.line_end.LineEnd.TheVariants.{Ended, Asks}
+use Rattle.s10_cli.specs.declared.asker.Asker.TheVariants.{Numbered, Noted}
 use Rattle.s10_cli.specs.declared.call_options.CallOptions.{CallOptions}
 
 -- The first letter is that of a subcommand that calls a server.
@@ -17,21 +27,49 @@ asks_server name = let first = slice_index name 0 in
 other : (name name' : Text) → name ≡ name' → asks_server name ≡ true → asks_server name' ≡ false → ⊥
 other name name' same is is_not = let is' = subst (λ (n : Text). asks_server n ≡ true) same is in cc
 
+-- Whether the subcommand is one of the post.
+abbrev pub is_posts : Text → Bool
+is_posts name = let first = slice_index name 0 in nat_eq first 103 || nat_eq first 119
+
+-- The post asks exactly if the subcommand is one of its own.
+same_side : (name : Text) (rows : List Row) (body : BodyWords) → IsBodyOf name rows body
+    → is_of_the_post body ≡ is_posts name
+same_side name rows (Grant holder service country first lst) asks =
+    subst (λ (n : Text). true ≡ is_posts n) (sym asks.0) refl
+same_side name rows (Withdraw range) asks =
+    subst (λ (n : Text). true ≡ is_posts n) (sym asks.0) refl
+same_side name rows (Draw service country) asks =
+    subst (λ (n : Text). false ≡ is_posts n) (sym asks.0) refl
+same_side name rows (DrawMany service country count) asks =
+    subst (λ (n : Text). false ≡ is_posts n) (sym asks.0) refl
+same_side name rows (Void id) asks =
+    subst (λ (n : Text). false ≡ is_posts n) (sym asks.0) refl
+same_side name rows (Query id) asks =
+    subst (λ (n : Text). false ≡ is_posts n) (sym asks.0) refl
+
 -- Without the options of a call, no call is asked for.
-pub headless : (rows : List Row) → ((heading : CallOptions) → ¬ AreCallOptions rows heading)
-    → (name : Text) → asks_server name ≡ true
-    → (job : Job) → ¬ AsksFor name rows job
-headless rows none name is (Ask question) asks =
-    none (record { to = question.to; number = question.number; tries = question.tries }) (
-      asks.0,
-      asks.1,
-      asks.2,
-    )
-headless rows none name is (Create ledger settings) asks = other _ _ asks.0 is refl
-headless rows none name is (Serve ledger bind count day) asks = other _ _ asks.0 is refl
-headless rows none name is (Report ledger is_of_issues day) asks = other _ _ asks.0 is refl
-headless rows none name is (Audit ledger) asks = other _ _ asks.0 is refl
-headless rows none name is (Loop day) asks = other _ _ asks.0 is refl
+no_call : (rows : List Row) (name : Text)
+    → ((options : CallOptions) → ¬ AreCallOptions (is_posts name) rows options)
+    → (options : CallOptions) (body : BodyWords) → ¬ IsCallOf name rows options body
+no_call rows name none options body asks = none options
+    (subst (λ (b : Bool). AreCallOptions b rows options) (same_side name rows body asks.1) asks.0)
+
+pub headless : (rows : List Row) (name : Text)
+    → ((options : CallOptions) → ¬ AreCallOptions (is_posts name) rows options)
+    → asks_server name ≡ true → (job : Job) → ¬ AsksFor name rows job
+headless rows name none is (Ask q) asks = no_call rows name none
+    (record { to = q.to; asker = Numbered q.customer q.number; tries = q.tries }) q.body asks
+headless rows name none is (AskByNotes q) asks = no_call rows name none
+    (record { to = q.to; asker = Noted q.notes; tries = q.tries }) q.body asks
+headless rows name none is (Create ledger settings) asks = other _ _ asks.0 is refl
+headless rows name none is (Serve ledger bind count day until) asks = other _ _ asks.0 is refl
+headless rows name none is (Notes file customer first lst) asks = other _ _ asks.0 is refl
+headless rows name none is (Again to notes tries) asks = other _ _ asks.0 is refl
+headless rows name none is (Report ledger Ranges day) asks = other _ _ asks.0.0 is refl
+headless rows name none is (Report ledger Issues day) asks = other _ _ asks.0.0 is refl
+headless rows name none is (Report ledger Info day) asks = other _ _ asks.0 is refl
+headless rows name none is (Audit ledger) asks = other _ _ asks.0 is refl
+headless rows name none is (Loop day) asks = other _ _ asks.0 is refl
 
 -- The subcommand that was named is that of the words.
 module _ (words : List Text) (faultless : fault_of grammar words ≡ []) where
@@ -47,10 +85,14 @@ module _ (words : List Text) (faultless : fault_of grammar words ≡ []) where
   in_words None job named asks = absurd asks
 
 -- A parse without a fault asks for the job that the words ask for.
-pub asks_in_words : (words : List Text) (o : Option (Text × List Row)) (job : Option Job)
-    → fault_of grammar words ≡ [] → o ≡ subcommand_of grammar words → Finds (IsNamedJob o) job
-    → Finds (AsksInWords words) job
-asks_in_words words o (Some job) faultless named asks = in_words words faultless o job named asks
-asks_in_words words o None faultless named none = λ job asks.
-    none job (subst (λ (x : Option (Text × List Row)). IsNamedJob x job)
-    (sym asks.named ∙ sym named) asks.asks)
+pub asks_in_words : (words : List Text) (o : Option (Text × List Row)) (ended : LineEnd)
+    → fault_of grammar words ≡ [] → o ≡ subcommand_of grammar words → AsksOrFails o ended
+    → AsksByWords words ended
+asks_in_words words o (Asks job) faultless named asks = in_words words faultless o job named asks
+asks_in_words words o (Ended status) faultless named asks = tt
+
+-- A line that was left to the program ends by its job, or since it asks for none.
+pub left_line : (named : Option (Text × List Row)) (ended : LineEnd) → AsksOrFails named ended
+    → EndsLine None named (status_in ended)
+left_line named (Asks job) asks = inl refl
+left_line named (Ended status) asks = inr (ap (λ (n : ℕ). Some n) asks.0, asks.1)

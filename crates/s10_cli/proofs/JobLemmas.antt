@@ -1,7 +1,7 @@
 -- Lemmas about what words ask for, by what a parse found in them.
-use Rattle.std.proofs.Common.{◌≡◌, ◌∙◌, sym, ap, ap₂, subst, refl, arith, slice_index, ℕ, List}
+use Rattle.std.proofs.Common.{◌≡◌, ◌∙◌, sym, ap₂, subst, refl, ℕ, List}
 use Rattle.std.proofs.Common.{Option, Some, None, Result}
-use Rattle.std.specs.Prelude.{codes, option_map, Box}
+use Rattle.std.specs.Prelude.{option_map, Box}
 use Rattle.std.specs.Box.{box_value}
 use Rattle.clap.specs.Words.{Row, Text, subcommand_name_of, subcommand_rows, subcommand_rows_of}
 use Rattle.clap.specs.declared.parser.matches.ArgMatches.{ArgMatches}
@@ -9,8 +9,7 @@ use Rattle.clap.specs.declared.parser.matches.ArgMatches.TheViews.{out-ArgMatche
 use Rattle.clap.specs.declared.parser.matches.SubCommand.{SubCommand}
 use Rattle.s10_lines.specs.declared.write_fault.WriteFault.{WriteFault}
 use Rattle.s10_jobs.specs.declared.job_status.JobStatus.{JobStatus}
-use Rattle.s10_cli.specs.CommandLine.{IsDone, IsSubcommandDone, word}
-use Rattle.s10_cli.specs.Printing.{MakesIdentifier}
+use Rattle.s10_cli.specs.CommandLine.{IsDone, IsSubcommandDone}
 
 one_pair : (o : Option (Text × List Row)) (name : Text) (rows : List Row)
     → Some name ≡ option_map (λ p. p.0) o → Some rows ≡ option_map (λ p. p.1) o
@@ -43,29 +42,3 @@ pub done_named : (input rest old new : Option (List ℕ)) (m : ArgMatches) (name
 done_named input rest old new m name rows answer n r done =
     subst (λ (o : Option (Text × List Row)). IsSubcommandDone input rest old new answer o)
     (sym (named_by m name rows n r)) done
-
--- Two subcommands with different first letters have different names.
-apart : (name a b : Text) → name ≡ a → name ≡ b → (slice_index a 0 ≡ slice_index b 0 → ⊥) → ⊥
-apart name a b is e differ = differ (ap (λ (t : Text). slice_index t 0) (sym is ∙ e))
-
--- `make` was run.
-pub done_make : (input rest old new : Option (List ℕ)) (name : Text) (rows : List Row)
-    (done : Result JobStatus WriteFault) (service serial country : Text)
-    → name ≡ codes "make" → service ≡ word rows (codes "service")
-    → serial ≡ word rows (codes "serial") → country ≡ word rows (codes "country")
-    → MakesIdentifier old new done service serial country → IsDone input rest old new (Some done)
-    name rows
-done_make input rest old new name rows done service serial country is a b c made =
-    let all : MakesIdentifier old new done (word rows (codes "service"))
-    (word rows (codes "serial")) (word rows (codes "country")) =
-    subst (λ (x : Text). MakesIdentifier old new done x (word rows (codes "serial"))
-    (word rows (codes "country"))) a
-    (subst (λ (x : Text). MakesIdentifier old new done service x (word rows (codes "country"))) b
-    (subst (λ (x : Text). MakesIdentifier old new done service serial x) c made)) in
-    record {
-      check = λ e. absurd (apart name _ _ is e (λ bad. omega arith));
-      make = λ _. all;
-      show = λ e. absurd (apart name _ _ is e (λ bad. omega arith));
-      replay = λ e. absurd (apart name _ _ is e (λ bad. omega arith));
-      left = λ _ other _ _. absurd (other is);
-    }

@@ -1,23 +1,28 @@
 -- Lemmas about the values that the getters of the matches read from the rows.
 use Rattle.std.proofs.Common.{◌≡◌, ◌∙◌, sym, ap, subst, refl, arith, ℕ, Bool, true, false, List}
 use Rattle.std.proofs.Common.{Option, Some, None, Result, Ok, Err}
-use Rattle.std.specs.Prelude.{◌<◌, ◌≤◌, ◌^◌, SomeIff, codes, unwrap_or, []}
+use Rattle.std.specs.Prelude.{◌≢◌, ◌<◌, ◌≤◌, ◌^◌, SomeIff, codes, option_map, [], ◌∷◌, length, map}
+use Rattle.std.proofs.Common.{slice_index_or}
+use Rattle.std.specs.Borrow.{Bor}
 use Rattle.std.specs.Io.KnownBytes.{append_known, prepend_known}
 use Rattle.std.specs.Io.Buffered.{reader_buffer, reader_capacity, reader_inner, reader_remaining}
 use Rattle.std.specs.Io.Buffered.{writer_buffer, writer_contents, writer_inner}
 use Rattle.std.specs.declared.io.buffered.BufReader.{BufReader}
 use Rattle.std.specs.declared.io.buffered.BufWriter.{BufWriter}
 use Rattle.std.proofs.lemmas.List.{append-nil}
+use Rattle.std.proofs.lemmas.Option.{same_Some}
 use Rattle.std.specs.Str.Parse.{IsNumeral, ParsesUnsigned, digits_value, without_leading_plus}
-use Rattle.clap.specs.Words.{Row, ReadsOne, first_of, first_value, one_text, rows_of}
+use Rattle.clap.specs.Words.{Row, ReadsOne, all_of, first_value, matched_of, one_text, raw_values}
+use Rattle.clap.specs.Words.{rows_of}
 use Rattle.clap.specs.declared.parser.matches.Found.{Found}
-use Rattle.clap.proofs.WalkLemmas.{first_value-rows, one_text-rows}
+use Rattle.clap.proofs.WalkLemmas.{first_value-rows, one_text-rows, raw_values-rows}
 use Rattle.s10_core.specs.Serial.{IsSerial}
 use Rattle.s10_wire.specs.Ids.{IsCount}
 use Rattle.s10_history.specs.Settings.{Terms, AreTerms}
-use Rattle.s10_cli.specs.CommandLine.{RunsLine, word}
-use Rattle.s10_cli.specs.Options.{Finds, HasCount, HasNumber, HasSerial, HasSettings, HasText}
-use Rattle.s10_cli.specs.Options.{HasTries, IsFlag}
+use Rattle.s10_cli.specs.CommandLine.{RunsLine}
+use Rattle.s10_cli.specs.Options.{Finds, HasCount, HasNumber, HasParts, HasSerial, HasSettings}
+use Rattle.s10_cli.specs.Options.{HasText, HasTries, IsFlag}
+use Rattle.s10_cli.specs.declared.parts.Parts.{Parts}
 
 pub number_unique : (rows : List Row) (name : List ℕ) (a b : ℕ) → HasNumber rows name a
     → HasNumber rows name b → a ≡ b
@@ -79,19 +84,43 @@ finds_number {E} gives parses f name o none value = go (one_text f name) refl o 
     go (Some text) e (Some n) none value =
         is_number f name text n e (parses text (Ok n) (value text e))
 
-pub word_is : (rows : List Row) (name text : List ℕ) → HasText rows name text
-    → text ≡ word rows name
-unfolding HasText word
-word_is rows name text has = rw has refl
+-- A list of three.
+pub three_are : (xs : List (Bor (List ℕ))) (d : Bor (List ℕ)) → length xs ≡ 3 → map (λ v. v.now) xs
+    ≡ (slice_index_or xs 0 d).now ∷ (slice_index_or xs 1 d).now ∷ (slice_index_or xs 2 d).now ∷ []
+three_are [] d e = absurd (omega (arith, e))
+three_are (x ∷ []) d e = absurd (omega (arith, e))
+three_are (x ∷ y ∷ []) d e = absurd (omega (arith, e))
+three_are (x ∷ y ∷ z ∷ []) d e = refl
+three_are (x ∷ y ∷ z ∷ w ∷ more) d e = absurd (omega (arith, e))
 
-pub no_word : (rows : List Row) (name : List ℕ) → ((text : List ℕ) → ¬ HasText rows name text)
-    → [] ≡ word rows name
-unfolding HasText word
-no_word rows name none = go (first_of name rows) refl
-  where
-    go : (o : Option (List ℕ)) → first_of name rows ≡ o → [] ≡ unwrap_or (first_of name rows) []
-    go None e = rw e refl
-    go (Some text) e = absurd (none text e)
+-- The values of `parts` are these, or there are none.
+all_is : (f : Found) (values : Option (List (List ℕ)))
+    → values ≡ option_map raw_values (matched_of f (codes "parts"))
+    → values ≡ all_of (codes "parts") (rows_of f)
+all_is f values e = e ∙ raw_values-rows f (codes "parts")
+
+pub has_parts : (f : Found) (values : List (List ℕ)) (parts : Parts)
+    → Some values ≡ option_map raw_values (matched_of f (codes "parts"))
+    → values ≡ parts.service.now ∷ parts.serial.now ∷ parts.country.now ∷ []
+    → HasParts (rows_of f) parts
+unfolding HasParts
+has_parts f values parts e are = sym (all_is f (Some values) e) ∙ ap Some are
+
+pub not_three : (f : Found) (values : List (List ℕ)) (parts : Parts)
+    → Some values ≡ option_map raw_values (matched_of f (codes "parts"))
+    → length values ≢ 3 → ¬ HasParts (rows_of f) parts
+unfolding HasParts
+not_three f values parts e other has =
+    let three : Some values ≡ Some (parts.service.now ∷ parts.serial.now ∷ parts.country.now ∷ []) =
+    all_is f (Some values) e ∙ has in
+    other (ap length (same_Some _ _ three))
+
+pub no_parts : (f : Found) (parts : Parts)
+    → None ≡ option_map raw_values (matched_of f (codes "parts")) → ¬ HasParts (rows_of f) parts
+unfolding HasParts
+no_parts f parts e has =
+    let none : None ≡ Some (parts.service.now ∷ parts.serial.now ∷ parts.country.now ∷ []) =
+    all_is f None e ∙ has in cc
 
 -- A new buffer adds nothing to what is written or read.
 pub no_more : (known : Option (List ℕ)) → append_known known [] ≡ known

@@ -1,15 +1,20 @@
 -- The job that a subcommand asks for: the option that gives each field.
-use Rattle.std.specs.Prelude.{◌≡◌, ℕ, List, [], Option, Some, None, codes, ⊤}
+use Rattle.std.specs.Prelude.{◌≡◌, ℕ, Bool, true, false, List, [], Option, Some, None, codes}
+use Rattle.std.specs.Prelude.{option_map, ⊤}
 use Rattle.clap.specs.Words.{Row, Text, fault_of, subcommand_of}
 use Rattle.s10_jobs.specs.declared.job.Job.{Job}
-use Rattle.s10_jobs.specs.declared.job.Job.TheVariants.{Create, Serve, Ask, Report, Audit, Loop}
-use Rattle.s10_jobs.specs.declared.question.Question.{Question}
+use Rattle.s10_jobs.specs.declared.job.Job.TheVariants.{Create, Serve, Ask, AskByNotes, Notes}
+use Rattle.s10_jobs.specs.declared.job.Job.TheVariants.{Again, Report, Audit, Loop}
+use Rattle.s10_jobs.specs.declared.report_kind.ReportKind.{ReportKind}
+use Rattle.s10_jobs.specs.declared.report_kind.ReportKind.TheVariants.{Ranges, Issues, Info}
 use Rattle.s10_jobs.specs.declared.body_words.BodyWords.{BodyWords}
 use Rattle.s10_jobs.specs.declared.body_words.BodyWords.TheVariants.{Grant, Draw, DrawMany}
 use Rattle.s10_jobs.specs.declared.body_words.BodyWords.TheVariants.{Withdraw, Void, Query}
 use Rattle.s10_grammar.specs.Grammar.{grammar}
 use Rattle.s10_cli.specs.Options.{Finds, HasText, HasNumber, HasSerial, HasSettings, HasCount}
-use Rattle.s10_cli.specs.Options.{HasTries, IsFlag}
+use Rattle.s10_cli.specs.Options.{HasTries, IsFlag, AreCallOptions}
+use Rattle.s10_cli.specs.declared.asker.Asker.TheVariants.{Numbered, Noted}
+use Rattle.s10_cli.specs.declared.call_options.CallOptions.{CallOptions}
 use Rattle.s10_cli.specs.declared.line_end.LineEnd.{LineEnd}
 use Rattle.s10_cli.specs.declared.line_end.LineEnd.TheVariants.{Ended, Asks}
 
@@ -18,44 +23,61 @@ abbrev pub HasPair : List Row → List ℕ → List ℕ → Type 0
 HasPair rows service country = HasText rows (codes "service") service
     × HasText rows (codes "country") country
 
--- The body, and the customer that asks: the post for a grant and a withdrawal, and the named
--- customer otherwise.
-abbrev pub IsAskedBy : List ℕ → List Row → ℕ → BodyWords → Type 0
-IsAskedBy name rows customer (Grant holder service country first last) = (name ≡ codes "grant")
-    × (customer ≡ 0)
+-- The body that a subcommand asks for.
+abbrev pub IsBodyOf : List ℕ → List Row → BodyWords → Type 0
+IsBodyOf name rows (Grant holder service country first last) = (name ≡ codes "grant")
     × HasNumber rows (codes "holder") holder × HasPair rows service.now country.now
     × HasSerial rows (codes "first") first × HasSerial rows (codes "last") last
-IsAskedBy name rows customer (Withdraw range) = (name ≡ codes "withdraw") × (customer ≡ 0)
+IsBodyOf name rows (Withdraw range) = (name ≡ codes "withdraw")
     × HasNumber rows (codes "range") range
-IsAskedBy name rows customer (Draw service country) = (name ≡ codes "draw")
-    × HasNumber rows (codes "customer") customer
+IsBodyOf name rows (Draw service country) = (name ≡ codes "draw")
     × HasPair rows service.now country.now × ((count : ℕ) → ¬ HasCount rows count)
-IsAskedBy name rows customer (DrawMany service country count) = (name ≡ codes "draw")
-    × HasNumber rows (codes "customer") customer
+IsBodyOf name rows (DrawMany service country count) = (name ≡ codes "draw")
     × HasPair rows service.now country.now × HasCount rows count
-IsAskedBy name rows customer (Void id) = (name ≡ codes "void") × HasNumber rows (codes "customer")
-    customer × HasText rows (codes "id") id.now
-IsAskedBy name rows customer (Query id) = (name ≡ codes "query") × HasNumber rows (codes "customer")
-    customer × HasText rows (codes "id") id.now
+IsBodyOf name rows (Void id) = (name ≡ codes "void") × HasText rows (codes "id") id.now
+IsBodyOf name rows (Query id) = (name ≡ codes "query") × HasText rows (codes "id") id.now
 
--- The request to a server, with its address, its number and its tries.
-abbrev pub IsQuestion : List ℕ → List Row → Question → Type 0
-IsQuestion name rows question = HasText rows (codes "to") question.to.now
-    × HasNumber rows (codes "number") question.number
-    × HasTries rows question.tries × IsAskedBy name rows question.customer question.body
+-- Whether the post asks: grants and withdrawals are its own.
+abbrev pub is_of_the_post : BodyWords → Bool
+is_of_the_post (Grant holder service country first last) = true
+is_of_the_post (Withdraw range) = true
+is_of_the_post (Draw service country) = false
+is_of_the_post (DrawMany service country count) = false
+is_of_the_post (Void id) = false
+is_of_the_post (Query id) = false
+
+-- The options and the body of a call.
+abbrev pub IsCallOf : List ℕ → List Row → CallOptions → BodyWords → Type 0
+IsCallOf name rows options body = AreCallOptions (is_of_the_post body) rows options
+    × IsBodyOf name rows body
+
+-- The kind of report that is asked for: by `report` with or without its flag, or by `info`.
+abbrev pub IsKind : List ℕ → List Row → ReportKind → Type 0
+IsKind name rows Ranges = (name ≡ codes "report") × IsFlag rows (codes "issues") false
+IsKind name rows Issues = (name ≡ codes "report") × IsFlag rows (codes "issues") true
+IsKind name rows Info = name ≡ codes "info"
 
 -- The subcommand with this name and these rows asks for the job.
 abbrev pub AsksFor : List ℕ → List Row → Job → Type 0
 AsksFor name rows (Create ledger settings) = (name ≡ codes "create") × HasText rows (codes "ledger")
     ledger.now × HasSettings rows settings
-AsksFor name rows (Serve ledger bind count day) = (name ≡ codes "serve")
+AsksFor name rows (Serve ledger bind count day until) = (name ≡ codes "serve")
     × HasText rows (codes "ledger") ledger.now
     × HasText rows (codes "bind") bind.now × HasNumber rows (codes "count") count
     × Finds (HasNumber rows (codes "day")) day
-AsksFor name rows (Ask question) = IsQuestion name rows question
-AsksFor name rows (Report ledger is_of_issues day) = (name ≡ codes "report")
-    × HasText rows (codes "ledger") ledger.now
-    × IsFlag rows (codes "issues") is_of_issues × Finds (HasNumber rows (codes "day")) day
+    × Finds (HasText rows (codes "until")) (option_map (λ path. path.now) until)
+AsksFor name rows (Ask q) =
+    IsCallOf name rows (record { to = q.to; asker = Numbered q.customer q.number; tries = q.tries })
+    q.body
+AsksFor name rows (AskByNotes q) =
+    IsCallOf name rows (record { to = q.to; asker = Noted q.notes; tries = q.tries }) q.body
+AsksFor name rows (Notes file customer first lst) = (name ≡ codes "notes")
+    × HasText rows (codes "file") file.now × HasNumber rows (codes "customer") customer
+    × HasNumber rows (codes "first") first × HasNumber rows (codes "last") lst
+AsksFor name rows (Again to notes tries) = (name ≡ codes "again") × HasText rows (codes "to") to.now
+    × HasText rows (codes "notes") notes.now × HasTries rows tries
+AsksFor name rows (Report ledger kind day) = IsKind name rows kind
+    × HasText rows (codes "ledger") ledger.now × Finds (HasNumber rows (codes "day")) day
 AsksFor name rows (Audit ledger) = (name ≡ codes "audit") × HasText rows (codes "ledger") ledger.now
 AsksFor name rows (Loop day) = (name ≡ codes "loop") × Finds (HasNumber rows (codes "day")) day
 
@@ -72,11 +94,15 @@ pub record AsksInWords (words : List Text) (job : Job) : Type 0 where
   pub named : subcommand_of grammar words ≡ Some (name, rows)
   pub asks : AsksFor name rows job
 
--- A command line that asks the program for a job has the job that its words ask for, and none only
--- if they ask for none.
+-- A command line that asks the program for a job has the job that its words ask for.
 abbrev pub AsksByWords : List Text → LineEnd → Type 0
 AsksByWords words (Ended status) = ⊤
-AsksByWords words (Asks job) = Finds (AsksInWords words) job
+AsksByWords words (Asks job) = AsksInWords words job
+
+-- A command line that was parsed asks for a job, or is a fault since it asks for none.
+abbrev pub AsksOrFails : Option (Text × List Row) → LineEnd → Type 0
+AsksOrFails named (Asks job) = IsNamedJob named job
+AsksOrFails named (Ended status) = (status ≡ 2) × ((job : Job) → ¬ IsNamedJob named job)
 
 -- The exit status of a command line that ended.
 abbrev pub status_in : LineEnd → Option ℕ

@@ -1,13 +1,16 @@
 -- The values of the options of a subcommand, by the rows that a command line gives it.
-use Rattle.std.specs.Prelude.{◌≡◌, ◌<◌, ◌≤◌, ◌^◌, ℕ, Bool, true, false, List, Option, Some, None}
-use Rattle.std.specs.Prelude.{codes, MatchOption}
+use Rattle.std.specs.Prelude.{◌≡◌, ◌<◌, ◌≤◌, ◌^◌, ℕ, Bool, true, false, List, [], ◌∷◌, Option}
+use Rattle.std.specs.Prelude.{Some, None, codes, MatchOption}
 use Rattle.std.specs.Str.Parse.{IsNumeral, digits_value, without_leading_plus}
-use Rattle.clap.specs.Words.{Row, first_of, one_of, found_of, rows_of}
+use Rattle.clap.specs.Words.{Row, all_of, first_of, one_of, found_of, rows_of}
 use Rattle.clap.specs.declared.parser.matches.ArgMatches.{ArgMatches}
 use Rattle.s10_core.specs.Serial.{IsSerial}
 use Rattle.s10_wire.specs.Ids.{IsCount}
 use Rattle.s10_history.specs.Settings.{Terms, AreTerms}
+use Rattle.s10_cli.specs.declared.asker.Asker.{Asker}
+use Rattle.s10_cli.specs.declared.asker.Asker.TheVariants.{Numbered, Noted}
 use Rattle.s10_cli.specs.declared.call_options.CallOptions.{CallOptions}
+use Rattle.s10_cli.specs.declared.parts.Parts.{Parts}
 
 -- The rows that were found.
 abbrev pub rows_in : ArgMatches → List Row
@@ -20,6 +23,11 @@ Finds {T} Is answer = MatchOption answer ((value : T) → ¬ Is value) Is
 -- The option was given this text, the first if it was given several times.
 unfoldable pub HasText : List Row → List ℕ → List ℕ → Type 0
 HasText rows name text = first_of name rows ≡ Some text
+
+-- The three parts of an identifier were given.
+unfoldable pub HasParts : List Row → Parts → Type 0
+HasParts rows parts = all_of (codes "parts") rows
+    ≡ Some (parts.service.now ∷ parts.serial.now ∷ parts.country.now ∷ [])
 
 -- The text is this number in decimal, perhaps after a `+`, and the number fits in 32 bits.
 abbrev pub WritesNumber : List ℕ → ℕ → Type 0
@@ -54,7 +62,21 @@ HasTries rows tries = HasNumber rows (codes "tries") tries × (1 ≤ tries) × (
 abbrev pub HasSerial : List Row → List ℕ → ℕ → Type 0
 HasSerial rows name serial = HasNumber rows name serial × IsSerial serial
 
--- The server, the number and the tries of a request.
-abbrev pub AreCallOptions : List Row → CallOptions → Type 0
-AreCallOptions rows heading = HasText rows (codes "to") heading.to.now
-    × HasNumber rows (codes "number") heading.number × HasTries rows heading.tries
+-- The customer that asks: the post, or the one that is named.
+abbrev pub IsCustomer : Bool → List Row → ℕ → Type 0
+IsCustomer true rows customer = customer ≡ 0
+IsCustomer false rows customer = HasNumber rows (codes "customer") customer
+
+-- What gives a request its number: a number and a customer without notes, or notes without either.
+abbrev pub IsAsker : Bool → List Row → Asker → Type 0
+IsAsker is_post rows (Numbered customer number) = IsCustomer is_post rows customer
+    × HasNumber rows (codes "number") number
+    × ((notes : List ℕ) → ¬ HasText rows (codes "notes") notes)
+IsAsker is_post rows (Noted notes) = HasText rows (codes "notes") notes.now
+    × ((number : ℕ) → ¬ HasNumber rows (codes "number") number)
+    × ((customer : ℕ) → ¬ HasNumber rows (codes "customer") customer)
+
+-- The options of a request, by the post or by a customer.
+abbrev pub AreCallOptions : Bool → List Row → CallOptions → Type 0
+AreCallOptions is_post rows options = HasText rows (codes "to") options.to.now
+    × HasTries rows options.tries × IsAsker is_post rows options.asker

@@ -1,23 +1,18 @@
 -- What `check`, `make`, `show` and `replay` print, and how they end.
-use Rattle.std.specs.Prelude.{◌≡◌, ℕ, Bool, List, [], ◌∷◌, codes, Option, Some, None, Result, IfOk}
-use Rattle.std.specs.Prelude.{IfSome}
+use Rattle.std.specs.Prelude.{◌≡◌, ℕ, List, [], Option, Some, None, Result, IfOk, IfSome}
 use Rattle.std.specs.Io.KnownBytes.{Appends}
-use Rattle.s10_core.specs.declared.id.Id.{Id}
-use Rattle.s10_core.specs.declared.text_fault.TextFault.{TextFault}
-use Rattle.s10_core.specs.Id.{Spells}
-use Rattle.s10_core.specs.Serial.{AreEightDigits}
-use Rattle.s10_core.specs.TextFault.{IsFirstRefusal}
 use Rattle.s10_lines.specs.declared.write_fault.WriteFault.{WriteFault}
 use Rattle.s10_history.specs.declared.entry.Entry.{Entry}
 use Rattle.s10_history.specs.Settings.{Terms}
-use Rattle.s10_jobs.specs.declared.replay_fault.ReplayFault.{ReplayFault}
+use Rattle.s10_jobs.specs.declared.input_fault.InputFault.{InputFault}
 use Rattle.s10_jobs.specs.declared.job_status.JobStatus.{JobStatus}
-use Rattle.s10_jobs.specs.declared.job_status.JobStatus.TheVariants.{Done, Refused}
-use Rattle.s10_jobs.specs.InputLines.{bytes_in}
-use Rattle.s10_jobs.specs.Lines.{AreTwoCapitals, made_line, refused_line, text_read, valid_line}
+use Rattle.s10_jobs.specs.declared.line_job.LineJob.{LineJob}
+use Rattle.s10_jobs.specs.declared.line_job.LineJob.TheVariants.{Make}
+use Rattle.s10_jobs.specs.EachLine.{IsPrinted, EachPrinted, ReportsEach}
+use Rattle.s10_jobs.specs.Lines.{IsMade}
 use Rattle.s10_jobs.specs.Replay.{Replayed, ReportsReplay}
-use Rattle.s10_jobs.specs.Shown.{IsShown, Prints}
-use Rattle.s10_jobs.specs.Words.{text_fault_words}
+use Rattle.s10_jobs.specs.Shown.{Prints}
+use Rattle.s10_cli.specs.declared.parts.Parts.{Parts}
 
 -- `old` and `new` are the contents of the output before and after a job. `done` is how it ended.
 module _ (old new : Option (List ℕ)) (done : Result JobStatus WriteFault) where
@@ -25,32 +20,32 @@ module _ (old new : Option (List ℕ)) (done : Result JobStatus WriteFault) wher
   abbrev pub EndsWithLine : JobStatus → List ℕ → Type 0
   EndsWithLine status line = IfOk done (λ ended. (ended ≡ status) × Appends old new line)
 
-  -- The text was checked.
-  pub record Checks (is_label : Bool) (text : List ℕ) : Type 0 where
-    pub valid : (id : Id) → Spells (text_read is_label text) id → EndsWithLine Done (valid_line id)
-    pub refused : (fault : TextFault) → IsFirstRefusal (text_read is_label text) fault
-        → EndsWithLine Refused (refused_line (text_fault_words fault))
+  -- `input` and `rest` are what the reader has before and after the job.
+  module _ (input rest : Option (List ℕ)) where
+    -- The job printed one line, which is right for its status, and read nothing.
+    abbrev pub PrintsLine : (JobStatus → List ℕ → Type 0) → Type 0
+    PrintsLine IsLine = IfOk done (λ ended. Prints old new (IsLine ended)) × (rest ≡ input)
 
-  -- The identifier of these parts was written, or the first part that is invalid.
-  pub record MakesIdentifier (service serial country : List ℕ) : Type 0 where
-    pub made : AreTwoCapitals service → AreEightDigits serial → AreTwoCapitals country
-        → EndsWithLine Done (made_line service serial country)
-    pub no_service : ¬ AreTwoCapitals service
-        → EndsWithLine Refused (refused_line (codes "service" ∷ []))
-    pub no_serial : AreTwoCapitals service → ¬ AreEightDigits serial
-        → EndsWithLine Refused (refused_line (codes "serial" ∷ []))
-    pub no_country : AreTwoCapitals service → AreEightDigits serial → ¬ AreTwoCapitals country
-        → EndsWithLine Refused (refused_line (codes "country" ∷ []))
+    -- The job was done for each line of the input.
+    abbrev pub PrintsEachLine : LineJob → Type 0
+    PrintsEachLine job = IfSome input (λ bytes. IfSome old (λ held.
+        (printed : Result JobStatus InputFault) × (between : Option (List ℕ))
+        × EachPrinted job bytes rest held between printed × ReportsEach printed between new done))
 
-  -- The datagram with these digits was shown.
-  pub record ShowsDatagram (digits : List ℕ) : Type 0 where
-    pub hex : bytes_in digits ≡ None → EndsWithLine Refused (refused_line (codes "hex" ∷ []))
-    pub datagram : (bytes : List ℕ) → bytes_in digits ≡ Some bytes
-        → IfOk done (λ ended. Prints old new (IsShown bytes ended))
+    -- The job was done for the text. Without a text it was done for each line of the input.
+    abbrev pub PrintsFor : LineJob → Option (List ℕ) → Type 0
+    PrintsFor job (Some text) = PrintsLine (IsPrinted job text)
+    PrintsFor job None = PrintsEachLine job
 
-  -- The input was replayed over an empty ledger with these settings. `rest` is what remains of it.
-  abbrev pub Replays : Terms → Option (List ℕ) → Option (List ℕ) → Type 0
-  Replays terms input rest = IfSome input (λ bytes. IfSome old (λ held.
-      (after : List Entry) × (replayed : Result ℕ ReplayFault) × (between : Option (List ℕ))
-      × Replayed [] terms bytes rest held between replayed after × ReportsReplay replayed between
-      new done))
+    -- The identifier of the parts was made. Without parts that of each line of the input was.
+    abbrev pub MakesFor : Option Parts → Type 0
+    MakesFor (Some parts) =
+        PrintsLine (IsMade parts.service.now parts.serial.now parts.country.now)
+    MakesFor None = PrintsEachLine Make
+
+    -- The input was replayed over an empty ledger with these settings.
+    abbrev pub Replays : Terms → Type 0
+    Replays terms = IfSome input (λ bytes. IfSome old (λ held.
+        (after : List Entry) × (replayed : Result ℕ InputFault) × (between : Option (List ℕ))
+        × Replayed [] terms bytes rest held between replayed after
+        × ReportsReplay replayed between new done))

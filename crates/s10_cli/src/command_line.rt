@@ -4,18 +4,20 @@ ghost use Rattle.std.specs.Io.KnownBytes.{Keeps};
 ghost use Rattle.clap.specs.Words.{kind_of, subcommand_rows_of};
 ghost use Rattle.s10_cli.specs.Options.{rows_in};
 ghost use Rattle.s10_cli.specs.CommandLine.{IsDone, IsSubcommandDone, IsFaultPrinted, RunsLine};
-ghost use Rattle.s10_cli.specs.CommandLine.{exit_status, word};
-ghost use Rattle.s10_cli.specs.Jobs.{AsksByWords, status_in};
+ghost use Rattle.s10_cli.specs.CommandLine.{exit_status};
+ghost use Rattle.s10_cli.specs.Jobs.{AsksByWords, AsksOrFails, status_in};
 
 use crate::buffered::flush_buffer;
 use crate::input::Input;
 use crate::job_words::job_in;
 use crate::line_end::LineEnd;
 use crate::option_values::{flag_of, settings_of, text_of};
+use crate::parts::parts_of;
+use crate::printing::{make_for, print_for};
 use clap::error::ErrorKind;
 use clap::{ArgMatches, Error};
 use s10_grammar::parse;
-use s10_jobs::{JobStatus, check, make, run_replay, show};
+use s10_jobs::{JobStatus, LineJob, run_replay};
 use s10_lines::{WriteFault, write_text};
 use std::alloc::Global;
 use std::convert::AsStr;
@@ -27,7 +29,7 @@ use std::io::{BufReader, BufWriter, Read, Write};
 ///
 /// `words` begins with the program's name. If they ask for a job, nothing is written. For each
 /// subcommand, help, the version and faults of the command line end here, with their status. A fault
-/// of the command line goes to standard error, everything else to `output`, which the caller
+/// of the command line, such as a request without a number, goes to standard error, everything else to `output`, which the caller
 /// flushes. If memory is lacking, the line is `memory`.
 pub fn run_line<'a, R: Eprint + AllocGlobal, S: AsStr, I: Read, O: Write>(
     rt: &R,
@@ -42,11 +44,30 @@ pub fn run_line<'a, R: Eprint + AllocGlobal, S: AsStr, I: Read, O: Write>(
     match parse(rt.alloc(), words) {
         Ok(matches) => match run_subcommand(rt.alloc(), &matches, input, output) {
             Some(done) => LineEnd::Ended(status_of(done)),
-            None => LineEnd::Asks(job_in(&matches)),
+            None => job_or_fault(rt, &matches),
         },
         Err(error) => LineEnd::Ended(status_of(report_fault(rt, &error, output))),
     }
 }
+
+// Returns the job that the subcommand asks for. If it asks for none, prints a fault of the command
+// line: only a call of a server may lack one, since the grammar lets its number be left out.
+fn job_or_fault<'a, R: Eprint>(rt: &R, matches: &ArgMatches<'a>) -> LineEnd<'a>
+    ensures { AsksOrFails (subcommand_rows_of matches.now) result }
+{
+    match job_in(matches) {
+        Some(job) => LineEnd::Asks(job),
+        None => {
+            let _ = rt.eprintln(NO_NUMBER);
+            LineEnd::Ended(JobStatus::CommandLine as u8)
+        }
+    }
+}
+
+const NO_NUMBER: &str = "\
+error: a request needs either --notes, or --number and, but for grant and withdraw, --customer
+
+For more information, try '--help'.";
 
 fn status_of(done: Result<JobStatus, WriteFault>) -> u8
     ensures { result ≡ exit_status done }
@@ -114,16 +135,15 @@ fn run_named<I: Read, O: Write>(
 {
     match name {
         "check" => {
-            let text = value_of(found, "text");
-            Some(check(text, flag_of(found, "label"), output))
+            let is_label = flag_of(found, "label");
+            let text = text_of(found, "text");
+            Some(print_for(LineJob::Check { is_label }, text, input, output))
         }
-        "make" => {
-            let service = value_of(found, "service");
-            let serial = value_of(found, "serial");
-            let country = value_of(found, "country");
-            Some(make(service, serial, country, output))
+        "make" => Some(make_for(parts_of(found), input, output)),
+        "show" => {
+            let text = text_of(found, "hex");
+            Some(print_for(LineJob::Show, text, input, output))
         }
-        "show" => Some(show(value_of(found, "hex"), output)),
         "replay" => {
             // A parsed command line has both settings within their limits.
             let Some(settings) = settings_of(found) else {
@@ -132,16 +152,6 @@ fn run_named<I: Read, O: Write>(
             Some(run_replay(alloc, settings, input, output))
         }
         _ => None,
-    }
-}
-
-// Returns the value of a required argument. A parsed command line has one.
-fn value_of<'a>(found: &ArgMatches<'a>, id: &str) -> &'a str
-    ensures { result.now ≡ word (rows_in found.now) id.now }
-{
-    match text_of(found, id) {
-        Some(value) => value,
-        None => "",
     }
 }
 

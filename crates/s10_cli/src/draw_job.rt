@@ -3,15 +3,16 @@ ghost use Rattle.std.specs.Prelude.{codes};
 ghost use Rattle.s10_cli.specs.Options.{rows_in, Finds};
 ghost use Rattle.s10_cli.specs.Jobs.{AsksFor};
 
-use crate::call_options::call_options_of;
-use crate::option_values::{count_of, number_of, text_of};
+use crate::asker::Asker;
+use crate::call_options::{call_options_of, job_asking};
+use crate::option_values::{count_of, text_of};
 use clap::ArgMatches;
-use s10_jobs::{BodyWords, Job, Question};
+use s10_jobs::{BodyWords, Job, NotedQuestion, Question};
 
 /// Returns the request for one identifier or a sheet that the words of `draw` ask for.
 ///
-/// Returns `None` if a required option is missing or its number is out of range. Neither occurs in
-/// a command line that `parse` accepted.
+/// Returns `None` if the options give the request no number, or notes beside one. Otherwise no option
+/// is missing or out of range in a command line that `parse` accepted.
 pub fn draw_job<'a>(found: &ArgMatches<'a>) -> Option<Job<'a>>
     ensures { Finds (AsksFor (codes "draw") (rows_in found.now)) result }
 {
@@ -25,14 +26,8 @@ pub fn draw_job<'a>(found: &ArgMatches<'a>) -> Option<Job<'a>>
             count,
         },
     };
-    let Some(heading) = call_options_of(found) else {
+    let Some(options) = call_options_of(found, false) else {
         return None;
     };
-    Some(Job::Ask(Question {
-        to: heading.to,
-        customer: number_of(found, "customer")?,
-        number: heading.number,
-        body,
-        tries: heading.tries,
-    }))
+    Some(job_asking!(options, body))
 }

@@ -3,13 +3,15 @@ ghost use Rattle.clap.specs.Words.{subcommand_rows_of};
 ghost use Rattle.s10_cli.specs.Options.{rows_in, Finds};
 ghost use Rattle.s10_cli.specs.Jobs.{AsksFor, IsNamedJob};
 
+use crate::again_job::again_job;
 use crate::audit_job::audit_job;
 use crate::create_job::create_job;
 use crate::draw_job::draw_job;
 use crate::grant_job::grant_job;
 use crate::loop_job::loop_job;
+use crate::notes_job::notes_job;
 use crate::query_job::query_job;
-use crate::report_job::report_job;
+use crate::report_job::{info_job, report_job};
 use crate::serve_job::serve_job;
 use crate::void_job::void_job;
 use crate::withdraw_job::withdraw_job;
@@ -41,7 +43,10 @@ fn job_of<'a>(name: &str, found: &ArgMatches<'a>) -> Option<Job<'a>>
         "void" => void_job(found),
         "query" => query_job(found),
         "withdraw" => withdraw_job(found),
+        "notes" => notes_job(found),
+        "again" => again_job(found),
         "report" => report_job(found),
+        "info" => info_job(found),
         "audit" => audit_job(found),
         "loop" => Some(loop_job(found)),
         _ => None,

@@ -1,6 +1,8 @@
 //! Reads jobs from a command line of `s10`, and runs the subcommands that need no file or socket.
 #![tactic(auto)]
 
+mod again_job;
+mod asker;
 mod audit_job;
 mod buffered;
 mod call_options;
@@ -12,7 +14,10 @@ mod input;
 mod job_words;
 mod line_end;
 mod loop_job;
+mod notes_job;
 mod option_values;
+mod parts;
+mod printing;
 mod query_job;
 mod report_job;
 mod serve_job;

@@ -7,7 +7,6 @@ use s10_jobs::Job;
 pub enum LineEnd<'a> {
     /// It ended with this exit status.
     Ended(u8),
-    /// It asks the program for this job. `None` if no job fits its options; the grammar admits no
-    /// such words.
-    Asks(Option<Job<'a>>),
+    /// It asks the program for this job.
+    Asks(Job<'a>),
 }

@@ -1,11 +1,11 @@
-//! Reads the job of a command line with `report`.
+//! Reads the job of a command line with `report` or `info`.
 ghost use Rattle.std.specs.Prelude.{codes};
 ghost use Rattle.s10_cli.specs.Options.{rows_in, Finds};
 ghost use Rattle.s10_cli.specs.Jobs.{AsksFor};
 
 use crate::option_values::{flag_of, number_of, text_of};
 use clap::ArgMatches;
-use s10_jobs::Job;
+use s10_jobs::{Job, ReportKind};
 
 /// Returns the report that the words of `report` ask for.
 ///
@@ -14,9 +14,25 @@ use s10_jobs::Job;
 pub fn report_job<'a>(found: &ArgMatches<'a>) -> Option<Job<'a>>
     ensures { Finds (AsksFor (codes "report") (rows_in found.now)) result }
 {
+    let kind = if flag_of(found, "issues") {
+        ReportKind::Issues
+    } else {
+        ReportKind::Ranges
+    };
     Some(Job::Report {
         ledger: text_of(found, "ledger")?,
-        is_of_issues: flag_of(found, "issues"),
+        kind,
+        day: number_of(found, "day"),
+    })
+}
+
+/// Returns the report that the words of `info` ask for, or `None` as `report_job` does.
+pub fn info_job<'a>(found: &ArgMatches<'a>) -> Option<Job<'a>>
+    ensures { Finds (AsksFor (codes "info") (rows_in found.now)) result }
+{
+    Some(Job::Report {
+        ledger: text_of(found, "ledger")?,
+        kind: ReportKind::Info,
         day: number_of(found, "day"),
     })
 }

@@ -19,5 +19,6 @@ pub fn serve_job<'a>(found: &ArgMatches<'a>) -> Option<Job<'a>>
         bind: text_of(found, "bind")?,
         count: number_of(found, "count")?,
         day: number_of(found, "day"),
+        until: text_of(found, "until"),
     })
 }

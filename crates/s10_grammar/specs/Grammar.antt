@@ -13,9 +13,9 @@ use Rattle.clap.specs.declared.builder.value_parser.ValueParser.TheVariants.{Sig
 use Rattle.clap.specs.declared.error.Error.{Error}
 use Rattle.clap.specs.declared.parser.matches.ArgMatches.{ArgMatches}
 
--- A required argument that is given by its position.
-abbrev pub a_word : Text → Rule
-a_word name = record (new_rule name) { value_names = 1; required = true }
+-- Words that are given by their position: exactly that many, or none.
+abbrev pub words_or_none : ℕ → Text → Rule
+words_or_none count name = record (new_rule name) { value_names = count }
 
 -- An option without a value.
 abbrev pub a_flag : Text → Rule
@@ -61,6 +61,14 @@ limit = between 1 1000000000 (an_option (codes "limit"))
 abbrev pub day : Rule
 day = whole (an_option (codes "day"))
 
+-- The option `--count` of `serve`, which is the greatest number of 32 bits if it is left out.
+abbrev pub turn_count : Rule
+turn_count = or_else (codes "4294967295") (whole (an_option (codes "count")))
+
+-- An option with a number of 32 bits, which may be left out.
+abbrev pub a_count : Text → Rule
+a_count name = whole (an_option name)
+
 -- The option `--tries`, which is 5 if it is left out.
 abbrev pub tries : Rule
 tries = or_else (codes "5") (between 1 100 (an_option (codes "tries")))
@@ -71,16 +79,15 @@ says name rules = record (new_shape name) { rules = rules }
 
 -- The subcommand `check`.
 abbrev pub check_shape : Shape
-check_shape = says (codes "check") (a_flag (codes "label") ∷ a_word (codes "text") ∷ [])
+check_shape = says (codes "check") (a_flag (codes "label") ∷ words_or_none 1 (codes "text") ∷ [])
 
 -- The subcommand `make`.
 abbrev pub make_shape : Shape
-make_shape = says (codes "make") (a_word (codes "service") ∷ a_word (codes "serial")
-    ∷ a_word (codes "country") ∷ [])
+make_shape = says (codes "make") (words_or_none 3 (codes "parts") ∷ [])
 
 -- The subcommand `show`.
 abbrev pub show_shape : Shape
-show_shape = says (codes "show") (a_word (codes "hex") ∷ [])
+show_shape = says (codes "show") (words_or_none 1 (codes "hex") ∷ [])
 
 -- The subcommand `replay`.
 abbrev pub replay_shape : Shape
@@ -94,41 +101,54 @@ create_shape = says (codes "create") (a_text (codes "ledger") ∷ needed interva
 -- The subcommand `serve`.
 abbrev pub serve_shape : Shape
 serve_shape = says (codes "serve") (a_text (codes "ledger") ∷ a_text (codes "bind")
-    ∷ a_number (codes "count") ∷ day ∷ [])
+    ∷ turn_count ∷ an_option (codes "until") ∷ day ∷ [])
 
 -- The subcommand `grant`.
 abbrev pub grant_shape : Shape
-grant_shape = says (codes "grant") (a_text (codes "to") ∷ a_number (codes "number")
-    ∷ a_number (codes "holder")
+grant_shape = says (codes "grant") (a_text (codes "to") ∷ a_count (codes "number")
+    ∷ an_option (codes "notes") ∷ a_number (codes "holder")
     ∷ a_text (codes "service") ∷ a_text (codes "country")
     ∷ between 0 99999999 (a_text (codes "first")) ∷ between 0 99999999 (a_text (codes "last"))
     ∷ tries ∷ [])
 
 -- The subcommand `draw`.
 abbrev pub draw_shape : Shape
-draw_shape = says (codes "draw") (a_text (codes "to") ∷ a_number (codes "customer")
-    ∷ a_number (codes "number")
+draw_shape = says (codes "draw") (a_text (codes "to") ∷ a_count (codes "customer")
+    ∷ a_count (codes "number") ∷ an_option (codes "notes")
     ∷ a_text (codes "service") ∷ a_text (codes "country") ∷ between 1 16 (an_option (codes "count"))
     ∷ tries ∷ [])
 
 -- The subcommand `void`.
 abbrev pub void_shape : Shape
-void_shape = says (codes "void") (a_text (codes "to") ∷ a_number (codes "customer")
-    ∷ a_number (codes "number") ∷ a_text (codes "id") ∷ tries ∷ [])
+void_shape = says (codes "void") (a_text (codes "to") ∷ a_count (codes "customer")
+    ∷ a_count (codes "number") ∷ an_option (codes "notes") ∷ a_text (codes "id") ∷ tries ∷ [])
 
 -- The subcommand `query`.
 abbrev pub query_shape : Shape
-query_shape = says (codes "query") (a_text (codes "to") ∷ a_number (codes "customer")
-    ∷ a_number (codes "number") ∷ a_text (codes "id") ∷ tries ∷ [])
+query_shape = says (codes "query") (a_text (codes "to") ∷ a_count (codes "customer")
+    ∷ a_count (codes "number") ∷ an_option (codes "notes") ∷ a_text (codes "id") ∷ tries ∷ [])
 
 -- The subcommand `withdraw`.
 abbrev pub withdraw_shape : Shape
-withdraw_shape = says (codes "withdraw") (a_text (codes "to") ∷ a_number (codes "number")
-    ∷ a_number (codes "range") ∷ tries ∷ [])
+withdraw_shape = says (codes "withdraw") (a_text (codes "to") ∷ a_count (codes "number")
+    ∷ an_option (codes "notes") ∷ a_number (codes "range") ∷ tries ∷ [])
+
+-- The subcommand `notes`.
+abbrev pub notes_shape : Shape
+notes_shape = says (codes "notes") (a_text (codes "file") ∷ a_number (codes "customer")
+    ∷ a_number (codes "first") ∷ a_number (codes "last") ∷ [])
+
+-- The subcommand `again`.
+abbrev pub again_shape : Shape
+again_shape = says (codes "again") (a_text (codes "to") ∷ a_text (codes "notes") ∷ tries ∷ [])
 
 -- The subcommand `report`.
 abbrev pub report_shape : Shape
 report_shape = says (codes "report") (a_text (codes "ledger") ∷ a_flag (codes "issues") ∷ day ∷ [])
+
+-- The subcommand `info`.
+abbrev pub info_shape : Shape
+info_shape = says (codes "info") (a_text (codes "ledger") ∷ day ∷ [])
 
 -- The subcommand `audit`.
 abbrev pub audit_shape : Shape
@@ -152,7 +172,8 @@ grammar = record {
   top = record top_shape { is_leaf = false };
   subs = check_shape ∷ make_shape ∷ show_shape ∷ replay_shape ∷ create_shape ∷ serve_shape
       ∷ grant_shape ∷ draw_shape
-      ∷ void_shape ∷ query_shape ∷ withdraw_shape ∷ report_shape ∷ audit_shape ∷ loop_shape ∷ [];
+      ∷ void_shape ∷ query_shape ∷ withdraw_shape ∷ notes_shape ∷ again_shape ∷ report_shape
+      ∷ info_shape ∷ audit_shape ∷ loop_shape ∷ [];
 }
 
 -- The argument follows this rule, and only in its own command.

@@ -1,9 +1,10 @@
 //! Builds commands and their arguments.
-ghost use Rattle.std.specs.Prelude.{◌≡◌, Some};
+ghost use Rattle.std.specs.Prelude.{◌≡◌, Some, length};
 ghost use Rattle.clap.specs.Words.{new_app};
 ghost use Rattle.clap.specs.declared.builder.texts.Texts.TheVariants.{One};
 ghost use Rattle.s10_grammar.specs.Grammar.{AddsCommand, AddsRule, Follows, Reads, a_flag};
-ghost use Rattle.s10_grammar.specs.Grammar.{a_number, a_text, a_word, an_option, between};
+ghost use Rattle.s10_grammar.specs.Grammar.{a_number, a_text, an_option, between};
+ghost use Rattle.s10_grammar.specs.Grammar.{words_or_none};
 
 use clap::{Arg, ArgAction, Command, value_parser};
 use std::alloc::{AllocError, Global};
@@ -52,12 +53,18 @@ pub fn with_subcommand<'a>(
     }
 }
 
-/// Builds a required argument that is given by its position.
+/// Builds an argument that is given by its position, and may be left out.
 pub fn word<'a>(alloc: Global, name: &'a str, value: &'a str, help: &'a str) -> Arg<'a>
-    ensures { Follows result (a_word name.entry.now) }
+    ensures { Follows result (words_or_none 1 name.entry.now) }
 {
-    let arg = valued(Arg::new(alloc, name), value, help);
-    arg.required(true)
+    valued(Arg::new(alloc, name), value, help)
+}
+
+/// Builds an argument of several words that are given by their position: all of them, or none.
+pub fn words<'a>(alloc: Global, name: &'a str, values: &'a [&'a str], help: &'a str) -> Arg<'a>
+    ensures { Follows result (words_or_none (length values.entry.now) name.entry.now) }
+{
+    Arg::new(alloc, name).value_names(values).help(help)
 }
 
 /// Builds an option without a value.

@@ -34,7 +34,7 @@ pub fn check_command<'a>(alloc: Global) -> Result<Command<'a>, AllocError>
             alloc,
             "text",
             "TEXT",
-            "The identifier: 13 characters, as RA473124829US",
+            "The identifier: 13 characters, as RA473124829US; without it, lines of standard input",
         ),
     )
 }
@@ -44,7 +44,13 @@ Prints the identifier, `valid` and its group (parcel, ems, registered, insured o
 `refused` and why: `length`, `letter AT`, `digit AT` or `check-digit`, where AT is the leftmost
 wrong place, counted from 0. The exit status is 0 for a valid identifier and 1 for a refused text.
 
+Without TEXT it checks each line of standard input and prints one line for each, in order. The exit
+status is 1 if any was refused. A carriage return at the end of a line is ignored. `refused line N`,
+with exit status 1, says that line N has more than 1036 bytes or is past 1000000 lines, and nothing
+after it is read; `input`, with status 3, that the input could not be read.
+
 Examples:
   s10 check RA473124829US                 RA473124829US valid registered
   s10 check --label 'ra 473 124 829 us'   RA473124829US valid registered
-  s10 check RA473124828US                 refused check-digit";
+  s10 check RA473124828US                 refused check-digit
+  s10 check --label < labels > checked    a line in `checked` for each line in `labels`";

@@ -3,14 +3,17 @@ ghost use Rattle.std.specs.Prelude.{◌≡◌, [], true, map, IfOk};
 ghost use Rattle.clap.specs.declared.builder.command.Command.TheViews.{out-Command as fields_of};
 ghost use Rattle.s10_grammar.specs.Grammar.{Parses, Reads, grammar, top_shape};
 
+use crate::again_command::again_command;
 use crate::audit_command::audit_command;
 use crate::builders::{named, with_subcommand};
 use crate::check_command::check_command;
 use crate::create_command::create_command;
 use crate::draw_command::draw_command;
 use crate::grant_command::grant_command;
+use crate::info_command::info_command;
 use crate::loop_command::loop_command;
 use crate::make_command::make_command;
+use crate::notes_command::notes_command;
 use crate::query_command::query_command;
 use crate::replay_command::replay_command;
 use crate::report_command::report_command;
@@ -49,7 +52,10 @@ pub fn command<'a>(alloc: Global) -> Result<Command<'a>, AllocError>
     let command = with_subcommand(command, void_command(alloc));
     let command = with_subcommand(command, query_command(alloc));
     let command = with_subcommand(command, withdraw_command(alloc));
+    let command = with_subcommand(command, notes_command(alloc));
+    let command = with_subcommand(command, again_command(alloc));
     let command = with_subcommand(command, report_command(alloc));
+    let command = with_subcommand(command, info_command(alloc));
     let command = with_subcommand(command, audit_command(alloc));
     with_subcommand(command, loop_command(alloc))
 }

@@ -39,6 +39,12 @@ after another, and `none-free` says that fewer serial numbers are free: none is 
 asked. With status 3, `gave-up` says that no reply came, and `link FAULT` that the socket failed;
 the same words again ask again, and draw once at most.
 
+With --notes FILE, in the place of --customer and --number, the request gets the next number of the
+notes (`s10 help notes`), and is written into them before it is sent. `refused unanswered`, with
+status 1, then says that the request before has no reply yet: `s10 again` asks it again.
+`refused numbers-spent` says that the notes have no number left. `notes FAULT`, with status 3, is as
+`s10 help again` says.
+
 Example:
   s10 draw --to 127.0.0.1:4711 --customer 7 --number 1 --service RA --country GB
   reply draw customer 7 number 1 RA GB done day 20000 RA000000005GB

@@ -48,6 +48,8 @@ something else under this number. `refused peer`, `refused service` or `refused 
 status 1, say that nothing was asked. With status 3, `gave-up` says that no reply came, and
 `link FAULT` that the socket failed; the same words again ask again, and grant once at most.
 
+--notes FILE, in the place of the number and of the customer, is as `s10 help draw` says.
+
 Example:
   s10 grant --to 127.0.0.1:4711 --number 1 --holder 7 --service RA --country GB --first 0 --last 2
   reply grant customer 0 number 1 holder 7 RA GB 00000000 00000002 done range 1";

@@ -2,6 +2,7 @@
 //! subcommands, their words and their options.
 #![tactic(auto)]
 
+mod again_command;
 mod audit_command;
 mod builders;
 mod check_command;
@@ -9,8 +10,10 @@ mod command;
 mod create_command;
 mod draw_command;
 mod grant_command;
+mod info_command;
 mod loop_command;
 mod make_command;
+mod notes_command;
 mod options;
 mod query_command;
 mod questions;

@@ -1,9 +1,9 @@
 //! Builds the options that several subcommands have.
 ghost use Rattle.std.specs.Prelude.{codes};
-ghost use Rattle.s10_grammar.specs.Grammar.{Follows, a_number, a_text, an_option, between, day};
+ghost use Rattle.s10_grammar.specs.Grammar.{Follows, a_count, a_text, an_option, between, day};
 ghost use Rattle.s10_grammar.specs.Grammar.{interval, limit, tries};
 
-use crate::builders::{number_option, option, text_option};
+use crate::builders::{option, text_option};
 use clap::{Arg, value_parser};
 use s10_history::{MAX_INTERVAL, MAX_LIMIT};
 use std::alloc::Global;
@@ -58,11 +58,18 @@ pub fn to_option<'a>(alloc: Global) -> Arg<'a>
     )
 }
 
+// Builds an option with a number of 32 bits, which may be left out.
+fn optional_number<'a>(alloc: Global, name: &'a str, help: &'a str) -> Arg<'a>
+    ensures { Follows result (a_count name.entry.now) }
+{
+    option(alloc, name, "N", help).value_parser(value_parser!(u32))
+}
+
 /// Builds the option `--customer`: the customer that asks.
 pub fn customer_option<'a>(alloc: Global) -> Arg<'a>
-    ensures { Follows result (a_number (codes "customer")) }
+    ensures { Follows result (a_count (codes "customer")) }
 {
-    number_option(
+    optional_number(
         alloc,
         "customer",
         "The number of the customer that asks; 0 is the post",
@@ -71,12 +78,24 @@ pub fn customer_option<'a>(alloc: Global) -> Arg<'a>
 
 /// Builds the option `--number`: the number of a request.
 pub fn request_option<'a>(alloc: Global) -> Arg<'a>
-    ensures { Follows result (a_number (codes "number")) }
+    ensures { Follows result (a_count (codes "number")) }
 {
-    number_option(
+    optional_number(
         alloc,
         "number",
         "The number of the request. The same number with the same request is answered again",
+    )
+}
+
+/// Builds the option `--notes`: the notes of a client, which give a request its customer and number.
+pub fn notes_option<'a>(alloc: Global) -> Arg<'a>
+    ensures { Follows result (an_option (codes "notes")) }
+{
+    option(
+        alloc,
+        "notes",
+        "FILE",
+        "The notes of a client, in the place of its customer and number: the request gets their next number",
     )
 }
 

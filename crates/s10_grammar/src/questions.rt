@@ -1,9 +1,9 @@
 //! Builds the subcommands that call a server.
 ghost use Rattle.std.specs.Prelude.{[], ◌∷◌, codes};
-ghost use Rattle.s10_grammar.specs.Grammar.{AddsRules, a_number, a_text};
+ghost use Rattle.s10_grammar.specs.Grammar.{AddsRules, a_count, a_text, an_option};
 
 use crate::builders::with;
-use crate::options::{customer_option, request_option, to_option};
+use crate::options::{customer_option, notes_option, request_option, to_option};
 use clap::Command;
 use std::alloc::{AllocError, Global};
 
@@ -16,11 +16,12 @@ pub fn with_request<'a>(
     alloc: Global,
     command: Result<Command<'a>, AllocError>,
 ) -> Result<Command<'a>, AllocError>
-    ensures { AddsRules command.entry (a_text (codes "to") ∷ a_number (codes "number") ∷ [])
-        result }
+    ensures { AddsRules command.entry (a_text (codes "to") ∷ a_count (codes "number")
+        ∷ an_option (codes "notes") ∷ []) result }
 {
     let command = with(command, to_option(alloc));
-    with(command, request_option(alloc))
+    let command = with(command, request_option(alloc));
+    with(command, notes_option(alloc))
 }
 
 /// Adds the options of a request by a customer.
@@ -32,10 +33,11 @@ pub fn with_asker<'a>(
     alloc: Global,
     command: Result<Command<'a>, AllocError>,
 ) -> Result<Command<'a>, AllocError>
-    ensures { AddsRules command.entry (a_text (codes "to") ∷ a_number (codes "customer")
-        ∷ a_number (codes "number") ∷ []) result }
+    ensures { AddsRules command.entry (a_text (codes "to") ∷ a_count (codes "customer")
+        ∷ a_count (codes "number") ∷ an_option (codes "notes") ∷ []) result }
 {
     let command = with(command, to_option(alloc));
     let command = with(command, customer_option(alloc));
-    with(command, request_option(alloc))
+    let command = with(command, request_option(alloc));
+    with(command, notes_option(alloc))
 }

@@ -1,10 +1,10 @@
 //! Builds the subcommand `serve`.
 ghost use Rattle.std.specs.Prelude.{IfOk};
-ghost use Rattle.s10_grammar.specs.Grammar.{ReadsAs, serve_shape};
+ghost use Rattle.s10_grammar.specs.Grammar.{Follows, ReadsAs, serve_shape, turn_count};
 
-use crate::builders::{named, number_option, text_option, with};
+use crate::builders::{named, option, text_option, with};
 use crate::options::{day_option, ledger_option};
-use clap::Command;
+use clap::{Arg, Command, value_parser};
 use std::alloc::{AllocError, Global};
 
 /// Builds the subcommand `serve`, with its words, its options and its help.
@@ -31,12 +31,14 @@ pub fn serve_command<'a>(alloc: Global) -> Result<Command<'a>, AllocError>
             "The address to serve at, as 127.0.0.1:4711; with port 0 the system picks one",
         ),
     );
+    let command = with(command, turn_count_option(alloc));
     let command = with(
         command,
-        number_option(
+        option(
             alloc,
-            "count",
-            "How many turns to serve: each receives one datagram, or waits a second for one",
+            "until",
+            "FILE",
+            "End within a second once this file is there, and close the ledger; it must not be there at the start",
         ),
     );
     with(
@@ -46,6 +48,19 @@ pub fn serve_command<'a>(alloc: Global) -> Result<Command<'a>, AllocError>
             "The day of all requests; by default the clock's day, read before each batch",
         ),
     )
+}
+
+fn turn_count_option<'a>(alloc: Global) -> Arg<'a>
+    ensures { Follows result turn_count }
+{
+    option(
+        alloc,
+        "count",
+        "N",
+        "How many turns to serve: each receives one datagram, or waits a second for one",
+    )
+    .value_parser(value_parser!(u32))
+    .default_value("4294967295")
 }
 
 const SERVE_EXAMPLES: &str = "\
@@ -60,9 +75,11 @@ Prints one line for each turn, as it is done:
 Datagrams that have arrived, up to 64, are one batch: their calls are written in one transaction,
 then the replies are sent, then the lines are printed.
 
-After the last turn the ledger is closed, and the exit status is 0. A line of another kind says why
-`serve` ended with status 3, or 1 for `refused peer`:
+After the last turn, or within a second once the file of `--until` is there, the calls that are
+pending are written, the ledger is closed, and the exit status is 0. A line of another kind says why
+`serve` ended with status 3, or 1 for a line `refused`:
   refused peer       the address is invalid
+  refused until      the file of `--until` is there already, perhaps from an earlier end
   memory             memory ran out before the ledger was opened
   ledger FAULT       the ledger could not be opened: not-a-ledger, schema N, damaged N, memory or
                      store

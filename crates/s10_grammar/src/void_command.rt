@@ -35,6 +35,8 @@ under this number. `refused peer`, or `refused` with `length`, `letter AT`, `dig
 `check-digit`, also with status 1, say that nothing was asked. With status 3, `gave-up` says that no
 reply came, and `link FAULT` that the socket failed; the same words again ask again.
 
+--notes FILE, in the place of the number and of the customer, is as `s10 help draw` says.
+
 Example:
   s10 void --to 127.0.0.1:4711 --customer 7 --number 3 --id RA000000005GB
   reply void customer 7 number 3 RA000000005GB done";

@@ -44,6 +44,8 @@ the post has asked for something else under this number. `refused peer`, also wi
 that nothing was asked. With status 3, `gave-up` says that no reply came, and `link FAULT` that the
 socket failed; the same words again ask again, and close once at most.
 
+--notes FILE, in the place of the number and of the customer, is as `s10 help draw` says.
+
 Example:
   s10 withdraw --to 127.0.0.1:4711 --number 2 --range 1
   reply withdraw customer 0 number 2 1 done";

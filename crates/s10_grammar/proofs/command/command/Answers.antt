@@ -5,6 +5,9 @@ pub returns : goal.returns
 unfolding grammar
 returns c =
     c.with_subcommand.ensures _ _
+    (c.with_subcommand-command-16.ensures _ _
+    (c.with_subcommand-command-15.ensures _ _
+    (c.with_subcommand-command-14.ensures _ _
     (c.with_subcommand-command-13.ensures _ _
     (c.with_subcommand-command-12.ensures _ _
     (c.with_subcommand-command-11.ensures _ _
@@ -30,6 +33,9 @@ returns c =
     c.void_command.ensures)
     c.query_command.ensures)
     c.withdraw_command.ensures)
+    c.notes_command.ensures)
+    c.again_command.ensures)
     c.report_command.ensures)
+    c.info_command.ensures)
     c.audit_command.ensures)
     c.loop_command.ensures
