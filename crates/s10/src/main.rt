@@ -10,11 +10,12 @@ ghost use Rattle.s10_host.specs.JobResources.{files_in, link_in, looped_in};
 ghost use Rattle.s10.specs.Ends.{RunsWords, RunsJob};
 
 use s10_cli::{LineEnd, flush_buffer, run_buffered};
-use s10_host::{ClosedFiles, JobEnd, JobResources, run_job};
+use s10_host::{ClosedFiles, HashSeed, JobEnd, JobResources, run_job};
 use s10_jobs::{ClockDays, Days, JobStatus};
 use s10_lines::WriteFault;
 use sqlite::{Start, Unknown};
 use std::convert::AsStr;
+use std::hash::RandomState;
 use std::io;
 use std::io::{BufWriter, ErrorKind, Read, Write};
 use std::process::ExitCode;
@@ -24,6 +25,7 @@ fn main(rt: HostRuntime) -> ExitCode {
         Ok(words) => words,
         Err(error) => return ExitCode::from(print_word_error(&rt, &error) as u8),
     };
+    let seed = RandomState::new(&rt).map(HashSeed::drawn);
     let mut days = ClockDays { clock: &rt };
     let output = io::writer(&rt);
     let (status, _ended) = run(
@@ -31,6 +33,7 @@ fn main(rt: HostRuntime) -> ExitCode {
         words.as_slice(),
         rt.reader(),
         output,
+        seed,
         Unknown,
         &mut days,
     );
@@ -59,6 +62,7 @@ fn run<S: Start, D: Days, W: AsStr, I: Read + Drop, O: Write + Drop>(
     words: &[W],
     input: I,
     output: O,
+    seed: io::Result<HashSeed>,
     start: S,
     days: &mut D,
 ) -> (u8, Option<Ended<S, O>>)
@@ -85,14 +89,13 @@ fn run<S: Start, D: Days, W: AsStr, I: Read + Drop, O: Write + Drop>(
             };
             return (status, Some(ended));
         }
-        LineEnd::Asks(Some(job)) => job,
-        LineEnd::Asks(None) => return failed(rt, &io::Error::from(ErrorKind::OutOfMemory)),
+        LineEnd::Asks(job) => job,
     };
     let mut output = match BufWriter::new(rt.alloc(), output) {
         Ok(output) => output,
         Err(error) => return failed(rt, &error),
     };
-    let JobEnd { done, resources } = run_job(rt, &job, start, days, &mut output);
+    let JobEnd { done, resources } = run_job(rt, &job, seed, start, days, &mut output);
     match (flush_buffer(output), done) {
         (Ok(output), Ok(status)) => {
             let ended = Ended {

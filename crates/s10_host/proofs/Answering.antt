@@ -28,7 +28,7 @@ use Rattle.s10_jobs.specs.Questioning.{IsUnasked, IsAsked, any_address}
 
 -- A text that cannot be read.
 pub refused_unasked : (question : Question) (refusal : Refusal) (old new : Option (List ℕ))
-    (r : Result JobStatus WriteFault) → IsQuestionRefusal question refusal
+    (r : Result JobStatus WriteFault) → IsQuestionRefusal question.to.now question.body refusal
     → IfOk r (λ status. (status ≡ Refused) × Appends old new (refused_line (refusal_words refusal)))
     → IfOk r (λ status. (line : List ℕ) × IsUnasked question status line × Appends old new line)
 refused_unasked question refusal old new (Ok status) is (same, line) =

@@ -1,7 +1,7 @@
 -- How a job ends, and what it prints.
 use denote.RattleType.{RattleType}
 use Rattle.std.proofs.Common.{◌≡◌, ◌≢◌, ◌⊎◌, ◌∙◌, inl, inr, ℕ, Bool, List, [], ◌∷◌, Option, Some, None}
-use Rattle.std.proofs.Common.{Result, Ok, Err, refl, sym, subst, true, false, ◌++◌}
+use Rattle.std.proofs.Common.{Result, Ok, Err, refl, sym, subst, true, ◌++◌}
 use Rattle.std.proofs.KnownBytes.{Appends-trans}
 use Rattle.std.specs.Prelude.{IfOk, IfErr, IfSome, IsOk, OnErr, codes, option_map}
 use Rattle.std.specs.Io.KnownBytes.{Appends}
@@ -28,14 +28,17 @@ use Rattle.s10_jobs.specs.declared.job.Job.{Job}
 use Rattle.s10_jobs.specs.Lines.{refused_line}
 use Rattle.s10_link.specs.Peer.{SpellsPeer}
 use Rattle.s10_jobs.specs.declared.reporting.Report.{Report}
-use Rattle.s10_jobs.specs.declared.reporting.Report.TheVariants.{Ranges, Issues}
+use Rattle.s10_jobs.specs.declared.reporting.Report.TheVariants.{Issues}
+use Rattle.s10_jobs.specs.declared.report_kind.ReportKind.{ReportKind}
+use Rattle.s10_jobs.specs.declared.report_kind.ReportKind.TheVariants.{Issues as OfIssues}
+use Rattle.s10_jobs.specs.Reporting.{report_on}
 use Rattle.s10_host.specs.declared.loop_resources.LoopResources.{LoopResources}
 use Rattle.s10_jobs.specs.Unbound.{IsUnbound}
 use Rattle.s10_host.specs.Files.{FileConnection, FileLedger, ClosedFiles, Copies, ClosesInto}
 use Rattle.s10_host.specs.Files.{IsFoundIn, IsFileFault, IsAbsenceOr, IsNotMade, IsNotOpened}
 use Rattle.s10_host.specs.Files.{LeavesClean, AreFilesOf, KeepsRefused}
 use Rattle.s10_host.specs.Audited.{HasFound, KeepsAudited, audit_line, audit_status}
-use Rattle.s10_host.specs.Closing.{IsClosedAs, Turns}
+use Rattle.s10_host.specs.Closing.{IsClosedAs, TurnsUntil}
 use Rattle.s10_host.specs.Jobs.{ledger_line, FailsByLedger, FailsByClosing, EndsAs, IsAskedFor}
 use Rattle.s10_host.specs.Jobs.{HasMadeLedger, HasCreated, EndsServed, IsRefusedIn, IsUnopened}
 use Rattle.s10_host.specs.Jobs.{IsServed, IsUnlinked, Writes, IsReported, IsReportOf, HasServed}
@@ -43,6 +46,7 @@ use Rattle.s10_host.specs.Jobs.{HasReported}
 use Rattle.s10_host.specs.Jobs.{HasAudited, HasEnded}
 use Rattle.s10_host.specs.declared.ledger_job.LedgerJob.{LedgerJob}
 use Rattle.s10_host.specs.declared.ledger_job.LedgerJob.TheVariants.{Create, Serve, Report as ReportOn}
+use Rattle.s10_host.specs.UntilFile.{EndsIfNamed}
 use Rattle.s10_host.specs.LedgerJobs.{IsRefusedAs, EndsOver}
 use Rattle.s10_jobs.specs.Days.{IsTaken}
 use Rattle.sqlite.specs.Effect.{Database}
@@ -81,39 +85,37 @@ fails_weaker Is Was gives done old new (Err e) says = tt
 
 module _ {C : Type 0} (gives : C → Option ℕ → C → Type 0) (day : Option ℕ) (begun ended : C) where
   -- What was made of a day that was taken, or of none.
-  abbrev pub Made : Option Report → Type 0
-  Made made = (taken : Option ℕ) × IsTaken gives day taken begun ended
-      × (made ≡ option_map (λ (d : ℕ). Ranges d) taken)
+  abbrev pub Made : ReportKind → Option Report → Type 0
+  Made kind made = (taken : Option ℕ) × IsTaken gives day taken begun ended
+      × (made ≡ option_map (report_on kind) taken)
 
-  ranges_on : (made : Option Report) (report : Report) → made ≡ Some report → Made made
-      → (d : ℕ) × (report ≡ Ranges d) × IsTaken gives day (Some d) begun ended
-  ranges_on made report is (Some d, taken, so) = (d, cc, taken)
-  ranges_on made report is (None, taken, so) = absurd cc
+  dated_on : (kind : ReportKind) (made : Option Report) (report : Report) → made ≡ Some report
+      → Made kind made
+      → (d : ℕ) × (report ≡ report_on kind d) × IsTaken gives day (Some d) begun ended
+  dated_on kind made report is (Some d, taken, so) = (d, cc, taken)
+  dated_on kind made report is (None, taken, so) = absurd cc
 
-  pub asked_for : (is_of_issues : Bool) (made : Option Report) (report : Report)
-      → made ≡ Some report → (is_of_issues ≡ true → (made ≡ Some Issues) × (ended ≡ begun))
-      → (is_of_issues ≡ false → Made made)
-      → IsAskedFor gives is_of_issues day begun ended report
-  asked_for true made report is issues ranges = record {
+  pub asked_for : (kind : ReportKind) (made : Option Report) (report : Report)
+      → made ≡ Some report → (kind ≡ OfIssues → (made ≡ Some Issues) × (ended ≡ begun))
+      → (kind ≢ OfIssues → Made kind made) → IsAskedFor gives kind day begun ended report
+  asked_for kind made report is issues dated = record {
     issues = λ so. let one = issues so in (cc, one.1);
-    ranges = λ so. absurd cc;
-  }
-  asked_for false made report is issues ranges = record {
-    issues = λ so. absurd cc;
-    ranges = λ so. ranges_on made report is (ranges so);
+    dated = λ other. dated_on kind made report is (dated other);
   }
 
-  no_taken : (made : Option Report) → made ≡ None → Made made → IsTaken gives day None begun ended
-  no_taken made is (None, taken, so) = taken
-  no_taken made is (Some d, taken, so) = absurd cc
+  no_taken : (kind : ReportKind) (made : Option Report) → made ≡ None → Made kind made
+      → IsTaken gives day None begun ended
+  no_taken kind made is (None, taken, so) = taken
+  no_taken kind made is (Some d, taken, so) = absurd cc
 
-  -- There is no report only if one of ranges was asked for and there is no day.
-  pub no_report : (is_of_issues : Bool) (made : Option Report) → made ≡ None
-      → (is_of_issues ≡ true → (made ≡ Some Issues) × (ended ≡ begun))
-      → (is_of_issues ≡ false → Made made)
-      → (is_of_issues ≡ false) × IsTaken gives day None begun ended
-  no_report true made is issues ranges = absurd (let one = (issues refl).0 in cc)
-  no_report false made is issues ranges = (refl, no_taken made is (ranges refl))
+  -- There is no report only if one was asked for that needs a day, and there is no day.
+  pub no_report : (kind : ReportKind) (made : Option Report) → made ≡ None
+      → (kind ≡ OfIssues → (made ≡ Some Issues) × (ended ≡ begun))
+      → (kind ≢ OfIssues → Made kind made)
+      → (kind ≢ OfIssues) × IsTaken gives day None begun ended
+  no_report kind made is issues dated =
+      let other : kind ≢ OfIssues = λ so. let one = (issues so).0 in absurd cc in
+      (other, no_taken kind made is (dated other))
 
 -- If no call was pending, a job ends as it was done.
 pub as_done : (committed : Result (Unit {0}) BookFault) (done result : Result JobStatus WriteFault)
@@ -144,14 +146,15 @@ module _ {D : Type 0} {g : disk.Ghosts D} where
   kept_copied closed put (Some f) committed done result new last copied (is, ends) =
       (subst (λ r. IfOk r (Copies closed)) is copied, ends)
 
-  pub refused_over : {C : Type 0} (gives : C → Option ℕ → C → Type 0) (job : LedgerJob)
+  pub refused_over : {C E : Type 0} {due : E → Bool → E → Type 0} {x y : E}
+      (gives : C → Option ℕ → C → Type 0) (job : LedgerJob)
       (begun ended : C) (was left : Held (FileStore D g)) (old between new : Option (List ℕ))
       (fault : OpenFault) (result : Result JobStatus WriteFault) (files : Option (Files D))
       → IsRefusedAs over_files job was left fault → between ≡ old
       → IfOk result (λ status. (status ≡ Failed) × Appends between new (ledger_line fault))
       → IfSome files (Copies left)
       → (IsOpen over_files left → (file_state left).committed ≡ (file_state left).now)
-      → EndsOver gives job begun ended was old new result files None
+      → EndsOver gives job begun ended due x y was old new result files None
   refused_over gives job begun ended was left old between new fault result files refused still says
       copies committed =
       inr (record {
@@ -190,11 +193,12 @@ module _ (S : RattleType) (first : Ghosts S.Denot) where
   not_lost done (Err fault) old new is says = absurd cc
 
   -- A ledger that was created and closed, after which `created` was printed.
-  pub created : {C : Type 0} (gives : C → Option ℕ → C → Type 0) (terms : Terms) (begun ended : C)
+  pub created : {C E : Type 0} {due : E → Bool → E → Type 0} {x y : E}
+      (gives : C → Option ℕ → C → Type 0) (terms : Terms) (begun ended : C)
       (was : FileConnection S first) (old between new : Option (List ℕ))
       (done printed : Result JobStatus WriteFault) (files : Option (ClosedFiles S first))
       (link : Option BoundLink) → IsFoundIn (image_at first) was → done ≡ Ok Done
-      → EndsOver gives (Create terms) begun ended was old between done files link
+      → EndsOver gives (Create terms) begun ended due x y was old between done files link
       → IfOk printed (λ status. (status ≡ Done) × Appends between new (codes "created\n"))
       → HasCreated S first terms old new printed files
   created gives terms begun ended was old between new done printed files link found is (inr refused)
@@ -225,11 +229,12 @@ module _ (S : RattleType) (first : Ghosts S.Denot) where
       }
 
   -- A ledger that was refused, or could not be closed.
-  pub not_created : {C : Type 0} (gives : C → Option ℕ → C → Type 0) (terms : Terms)
+  pub not_created : {C E : Type 0} {due : E → Bool → E → Type 0} {x y : E}
+      (gives : C → Option ℕ → C → Type 0) (terms : Terms)
       (begun ended : C) (was : FileConnection S first) (old new : Option (List ℕ))
       (result : Result JobStatus WriteFault) (files : Option (ClosedFiles S first))
       (link : Option BoundLink) → result ≢ Ok Done → IsFoundIn (image_at first) was
-      → EndsOver gives (Create terms) begun ended was old new result files link
+      → EndsOver gives (Create terms) begun ended due x y was old new result files link
       → HasCreated S first terms old new result files
   not_created gives terms begun ended was old new result (Some f) link undone found (inr refused) =
       record {
@@ -283,12 +288,12 @@ module _ (S : RattleType) (first : Ghosts S.Denot) where
   absent_or_refused old new (Err e) printed = tt
 
   was_honest : {C : Type 0} (gives : C → Option ℕ → C → Type 0) (day : Option ℕ) (begun ended : C)
-      (count : ℕ) (old new : Option (List ℕ))
+      (count : ℕ) (named : Bool) (old new : Option (List ℕ))
       (opened after : FileLedger S first) (result : Result JobStatus WriteFault) (link : BoundLink)
-      → Turns over_files gives day begun ended count opened after old new result link
+      → TurnsUntil over_files gives day begun ended count named opened after old new result link
       → IsHonest over_files after → IsHonest over_files opened
-  was_honest gives day begun ended count old new opened after result link turns h =
-      (turns.composed h).was_honest
+  was_honest gives day begun ended count named old new opened after result link turns h =
+      (turns.1.composed h).was_honest
 
   -- Which calls the files of a served ledger hold.
   ends_served : (served : FileLedger S first) (closed : FileConnection S first)
@@ -312,23 +317,23 @@ module _ (S : RattleType) (first : Ghosts S.Denot) where
       )
 
   served_away : {C : Type 0} (gives : C → Option ℕ → C → Type 0) (day : Option ℕ) (begun ended : C)
-      (count : ℕ) (old new last : Option (List ℕ))
+      (count : ℕ) (named : Bool) (old new last : Option (List ℕ))
       (opened served : FileLedger S first) (closed : FileConnection S first)
       (committed : Result (Unit {0}) BookFault) (done result : Result JobStatus WriteFault)
       (files : Option (ClosedFiles S first)) (link : BoundLink)
-      → Turns over_files gives day begun ended count opened served old new done link
+      → TurnsUntil over_files gives day begun ended count named opened served old new done link
       → IsClosedAs over_files served closed committed
       → IfSome files (λ f. Copies closed f × EndsAs committed done new last result)
-      → IfSome files (IsServed S first gives opened day begun ended count old last result link)
-  served_away gives day begun ended count old new last opened served closed committed done result None link turns put
+      → IfSome files (IsServed S first gives opened day begun ended count named old last result link)
+  served_away gives day begun ended count named old new last opened served closed committed done result None link turns put
       kept = tt
-  served_away gives day begun ended count old new last opened served closed committed done result (Some f) link turns
+  served_away gives day begun ended count named old new last opened served closed committed done result (Some f) link turns
       put (copies, ends) = record {
         served = served;
         turned = done;
         between = new;
         turns = turns;
-        was_honest = was_honest gives day begun ended count old new opened served done link turns;
+        was_honest = was_honest gives day begun ended count named old new opened served done link turns;
         ends = ends_served served closed committed f done result new last put copies ends;
       }
 
@@ -387,18 +392,19 @@ module _ (S : RattleType) (first : Ghosts S.Denot) where
       }
 
   -- How the turns over existing files ended.
-  pub served_over : {C : Type 0} (gives : C → Option ℕ → C → Type 0) (bind : List ℕ) (at : Peer)
-      (day : Option ℕ) (begun ended : C) (count : ℕ) (was : FileConnection S first)
+  served_over : {C : Type 0} (gives : C → Option ℕ → C → Type 0) (bind : List ℕ) (at : Peer)
+      (day : Option ℕ) (begun ended : C) (count : ℕ) (named after : Bool)
+      (was : FileConnection S first)
       (old new : Option (List ℕ)) (result : Result JobStatus WriteFault)
       (files : Option (ClosedFiles S first)) (link : Option BoundLink)
       → SpellsPeer bind at → IsFoundIn (image_at first) was
-      → EndsOver gives (Serve at count day) begun ended was old new result files link
-      → HasServed S first gives bind day begun ended count old new result files link
-  served_over gives bind at day begun ended count was old new result None None text found
+      → EndsOver gives (Serve at count day) begun ended EndsIfNamed named after was old new result files link
+      → HasServed S first gives bind day begun ended count named old new result files link
+  served_over gives bind at day begun ended count named after was old new result None None text found
       (inr refused) = record {
         at = tt;
         served = tt;
-        unlinked = λ _. inr (inl (
+        unlinked = λ _. inr (inr (inl (
           (at, text),
           fails_by (IsNotOpened S first) refused.fault old new result
               (inr (inr (record {
@@ -407,35 +413,35 @@ module _ (S : RattleType) (first : Ghosts S.Denot) where
                 left = refused.left;
                 refusal = refused.refusal;
               }))) refused.printed,
-        ));
+        )));
       }
-  served_over gives bind at day begun ended count was old new result (Some f) None text found
+  served_over gives bind at day begun ended count named after was old new result (Some f) None text found
       (inr refused) = record {
         at = tt;
         served = tt;
-        unlinked = λ _. inr (inl (
+        unlinked = λ _. inr (inr (inl (
           (at, text),
           refused_in (λ fault db. IsOpeningRefusal db fault) was refused.fault old new result f
               found refused.printed refused.kept,
-        ));
+        )));
       }
-  served_over gives bind at day begun ended count was old new result files (Some l) text found
+  served_over gives bind at day begun ended count named after was old new result files (Some l) text found
       (inr refused) = absurd (let none = refused.no_link in cc)
-  served_over gives bind at day begun ended count was old new result files None text found
+  served_over gives bind at day begun ended count named after was old new result files None text found
       (inl over) =
       let (opened, opening, served, put, unbound, turns) = over.worked in
       record {
         at = tt;
         served = tt;
-        unlinked = λ _. inr (inr (
+        unlinked = λ _. inr (inr (inr (
           (at, text),
           opened,
           found_book (image_at first) was opened found opening,
           unlinked old over.between new opened served over.closed over.committed over.done result
               files opening.none_pending (unbound refl) put over.kept over.lost,
-        ));
+        )));
       }
-  served_over gives bind at day begun ended count was old new result files (Some l) text found
+  served_over gives bind at day begun ended count named after was old new result files (Some l) text found
       (inl over) =
       let (opened, opening, served, put, unbound, (bound, turns)) = over.worked in
       record {
@@ -443,34 +449,51 @@ module _ (S : RattleType) (first : Ghosts S.Denot) where
         served = (
           opened,
           found_book (image_at first) was opened found opening,
-          served_away gives day begun ended count old over.between new opened served over.closed
-              over.committed over.done result files l turns put over.kept,
+          served_away gives day begun ended count named old over.between new opened served over.closed
+              over.committed over.done result files l (after, turns) put over.kept,
           λ none. record {
             served = served;
             turned = over.done;
             between = over.between;
-            turns = turns;
-            was_honest = was_honest gives day begun ended count old over.between opened served
-                over.done l turns;
+            turns = (after, turns);
+            was_honest = was_honest gives day begun ended count named old over.between opened served
+                over.done l (after, turns);
             printed = over.lost none;
           },
         );
         unlinked = λ none. absurd cc;
       }
 
+  -- The same, where the file is named if one was given.
+  pub served_until : {C : Type 0} (gives : C → Option ℕ → C → Type 0) (bind : List ℕ) (at : Peer)
+      (day : Option ℕ) (begun ended : C) (count : ℕ) (named given after : Bool)
+      (was : FileConnection S first)
+      (old new : Option (List ℕ)) (result : Result JobStatus WriteFault)
+      (files : Option (ClosedFiles S first)) (link : Option BoundLink) → named ≡ given
+      → SpellsPeer bind at → IsFoundIn (image_at first) was
+      → EndsOver gives (Serve at count day) begun ended EndsIfNamed named after was old new result
+      files link
+      → HasServed S first gives bind day begun ended count given old new result files link
+  served_until gives bind at day begun ended count named given after was old new result files link
+      same text found ends =
+      subst (λ (b : Bool). HasServed S first gives bind day begun ended count b old new result files
+      link) same
+      (served_over gives bind at day begun ended count named after was old new result files link text
+      found ends)
+
   -- An address that does not read.
   pub no_peer : {C : Type 0} (gives : C → Option ℕ → C → Type 0) (bind text : List ℕ)
-      (day : Option ℕ) (begun ended : C) (count : ℕ) (old new : Option (List ℕ))
+      (day : Option ℕ) (begun ended : C) (count : ℕ) (named : Bool) (old new : Option (List ℕ))
       (printed result : Result JobStatus WriteFault) (files : Option (ClosedFiles S first))
       (link : Option BoundLink) (made : Option Peer)
       → made ≡ None → ((p : Peer) → SpellsPeer text p → made ≡ Some p) → text ≡ bind
       → IfOk printed (λ status. (status ≡ Refused)
       × Appends old new (refused_line (codes "peer" ∷ [])))
       → result ≡ printed → link ≡ None → files ≡ None
-      → HasServed S first gives bind day begun ended count old new result files link
-  no_peer gives bind text day begun ended count old new printed result files link made none read
+      → HasServed S first gives bind day begun ended count named old new result files link
+  no_peer gives bind text day begun ended count named old new printed result files link made none read
       same says is gone no_files =
-      subst (HasServed S first gives bind day begun ended count old new result files) (sym gone)
+      subst (HasServed S first gives bind day begun ended count named old new result files) (sym gone)
       (record {
         at = tt;
         served = tt;
@@ -484,6 +507,25 @@ module _ (S : RattleType) (first : Ghosts S.Denot) where
         );
       })
 
+  -- A file that ends the turns is there already.
+  pub until_there : {C : Type 0} (gives : C → Option ℕ → C → Type 0) (bind : List ℕ) (at : Peer)
+      (day : Option ℕ) (begun ended : C) (count : ℕ) (named : Bool) (old new : Option (List ℕ))
+      (result : Result JobStatus WriteFault) (files : Option (ClosedFiles S first))
+      (link : Option BoundLink) → SpellsPeer bind at → named ≡ true
+      → IfOk result (λ status. (status ≡ Refused)
+      × Appends old new (refused_line (codes "until" ∷ [])))
+      → link ≡ None → files ≡ None
+      → HasServed S first gives bind day begun ended count named old new result files link
+  until_there gives bind at day begun ended count named old new result files link text is says gone
+      no_files =
+      subst (HasServed S first gives bind day begun ended count named old new result files)
+      (sym gone)
+      (record {
+        at = tt;
+        served = tt;
+        unlinked = λ _. inr (inl ((at, text), is, no_files, says));
+      })
+
   unopened : (fault : OpenFault) (old new : Option (List ℕ)) (result : Result JobStatus WriteFault)
       (files : Option (ClosedFiles S first)) → IsAbsenceOr IsFileFault fault
       → IfOk result (λ status. (status ≡ Failed) × Appends old new (ledger_line fault))
@@ -494,29 +536,29 @@ module _ (S : RattleType) (first : Ghosts S.Denot) where
 
   -- A ledger whose file could not be opened is not served.
   pub not_served : {C : Type 0} (gives : C → Option ℕ → C → Type 0) (bind : List ℕ) (at : Peer)
-      (day : Option ℕ) (begun ended : C) (count : ℕ) (fault : OpenFault) (old new : Option (List ℕ))
+      (day : Option ℕ) (begun ended : C) (count : ℕ) (named : Bool) (fault : OpenFault) (old new : Option (List ℕ))
       (result : Result JobStatus WriteFault) (files : Option (ClosedFiles S first))
       (link : Option BoundLink) → SpellsPeer bind at → IsAbsenceOr IsFileFault fault
       → IfOk result (λ status. (status ≡ Failed) × Appends old new (ledger_line fault))
       → files ≡ None → link ≡ None
-      → HasServed S first gives bind day begun ended count old new result files link
-  not_served gives bind at day begun ended count fault old new result files link text is says none
+      → HasServed S first gives bind day begun ended count named old new result files link
+  not_served gives bind at day begun ended count named fault old new result files link text is says none
       gone =
-      subst (HasServed S first gives bind day begun ended count old new result files) (sym gone)
+      subst (HasServed S first gives bind day begun ended count named old new result files) (sym gone)
       (record {
         at = tt;
         served = tt;
-        unlinked = λ _. inr (inl ((at, text), unopened fault old new result files is says none));
+        unlinked = λ _. inr (inr (inl ((at, text), unopened fault old new result files is says none)));
       })
 
-  pub no_day : {C : Type 0} (gives : C → Option ℕ → C → Type 0) (is_of_issues : Bool)
+  pub no_day : {C : Type 0} (gives : C → Option ℕ → C → Type 0) (kind : ReportKind)
       (day : Option ℕ) (begun ended : C) (old new : Option (List ℕ))
       (printed result : Result JobStatus WriteFault) (files : Option (ClosedFiles S first))
-      → (is_of_issues ≡ false) × IsTaken gives day None begun ended
+      → (kind ≢ OfIssues) × IsTaken gives day None begun ended
       → IfOk printed (λ status. (status ≡ Failed) × Appends old new (codes "clock\n"))
       → result ≡ printed → files ≡ None
-      → HasReported S first gives is_of_issues day begun ended old new result files
-  no_day gives is_of_issues day begun ended old new printed result files none says same gone = inl (
+      → HasReported S first gives kind day begun ended old new result files
+  no_day gives kind day begun ended old new printed result files none says same gone = inl (
     none.0,
     none.1,
     gone,
@@ -553,11 +595,12 @@ module _ (S : RattleType) (first : Ghosts S.Denot) where
             (never (put.honest clean opened)) clean opened) copies;
       }
 
-  reported_over : {C : Type 0} (gives : C → Option ℕ → C → Type 0) (report : Report)
+  reported_over : {C E : Type 0} {due : E → Bool → E → Type 0} {x y : E}
+      (gives : C → Option ℕ → C → Type 0) (report : Report)
       (begun ended : C) (was : FileConnection S first) (old new : Option (List ℕ))
       (result : Result JobStatus WriteFault) (files : Option (ClosedFiles S first))
       (link : Option BoundLink) → IsFoundIn (image_at first) was
-      → EndsOver gives (ReportOn report) begun ended was old new result files link
+      → EndsOver gives (ReportOn report) begun ended due x y was old new result files link
       → IsUnopened S first old new result files ⊎ IsReportOf S first report old new result files
   reported_over gives report begun ended was old new result None link found (inr refused) =
       inl (fails_by (IsNotOpened S first) refused.fault old new result
@@ -586,14 +629,15 @@ module _ (S : RattleType) (first : Ghosts S.Denot) where
         },
       )
 
-  pub reported_in : {C : Type 0} (gives : C → Option ℕ → C → Type 0) (is_of_issues : Bool)
+  pub reported_in : {C E : Type 0} {due : E → Bool → E → Type 0} {x y : E}
+      (gives : C → Option ℕ → C → Type 0) (kind : ReportKind)
       (day : Option ℕ) (begun between ended : C) (report : Report) (was : FileConnection S first)
       (old new : Option (List ℕ)) (result : Result JobStatus WriteFault)
       (files : Option (ClosedFiles S first)) (link : Option BoundLink)
-      → IsAskedFor gives is_of_issues day begun between report → IsFoundIn (image_at first) was
-      → EndsOver gives (ReportOn report) between ended was old new result files link
-      → HasReported S first gives is_of_issues day begun ended old new result files
-  reported_in gives is_of_issues day begun between ended report was old new result files link asked
+      → IsAskedFor gives kind day begun between report → IsFoundIn (image_at first) was
+      → EndsOver gives (ReportOn report) between ended due x y was old new result files link
+      → HasReported S first gives kind day begun ended old new result files
+  reported_in gives kind day begun between ended report was old new result files link asked
       found ends = inr (
         report,
         between,
@@ -602,14 +646,14 @@ module _ (S : RattleType) (first : Ghosts S.Denot) where
       )
 
   -- A ledger whose file could not be opened is not reported on.
-  pub not_reported : {C : Type 0} (gives : C → Option ℕ → C → Type 0) (is_of_issues : Bool)
+  pub not_reported : {C : Type 0} (gives : C → Option ℕ → C → Type 0) (kind : ReportKind)
       (day : Option ℕ) (begun between ended : C) (report : Report) (fault : OpenFault)
       (old new : Option (List ℕ)) (result : Result JobStatus WriteFault)
       (files : Option (ClosedFiles S first))
-      → IsAskedFor gives is_of_issues day begun between report → IsAbsenceOr IsFileFault fault
+      → IsAskedFor gives kind day begun between report → IsAbsenceOr IsFileFault fault
       → IfOk result (λ status. (status ≡ Failed) × Appends old new (ledger_line fault))
-      → files ≡ None → HasReported S first gives is_of_issues day begun ended old new result files
-  not_reported gives is_of_issues day begun between ended report fault old new result files asked is
+      → files ≡ None → HasReported S first gives kind day begun ended old new result files
+  not_reported gives kind day begun between ended report fault old new result files asked is
       says none = inr (report, between, asked, inl (unopened fault old new result files is says none))
 
   -- An audit that left these files.

@@ -4,3 +4,4 @@ mod Leaving
 mod Opening
 mod Ending
 mod Answering
+mod NotesEnding

@@ -1,5 +1,5 @@
 -- Defines the turns of a ledger, and when it is closed.
-use Rattle.std.specs.Prelude.{◌≡◌, ℕ, List, [], length, Option, Result, OnOk, OnErr}
+use Rattle.std.specs.Prelude.{◌≡◌, ℕ, Bool, List, [], length, Option, Result, OnOk, OnErr}
 use Rattle.sqlite_trees.specs.declared.store.Store.{Ghosts}
 use Rattle.sqlite.specs.Held.{Held, state}
 use Rattle.s10_lines.specs.declared.write_fault.WriteFault.{WriteFault}
@@ -13,6 +13,7 @@ use Rattle.s10_ledger.specs.Ledger.{committed_of}
 use Rattle.s10_statements.specs.ConnectionState.{IsClean, IsOpen}
 use Rattle.s10_jobs.specs.declared.job_status.JobStatus.{JobStatus}
 use Rattle.s10_jobs.specs.Serving.{ServesTurns}
+use Rattle.s10_host.specs.UntilFile.{EndsIfNamed}
 
 module _ {S : Type 0} (g : Ghosts S) where
   -- The ledger was closed with this connection. The result says whether all calls were committed.
@@ -35,10 +36,18 @@ module _ {S : Type 0} (g : Ghosts S) where
     pub none_pending : book.pending ≡ [] → OnErr commit_result ⊥
 
   -- The turns on a new link, on the given day or on those of a source, and their lines.
-  abbrev pub Turns : {C : Type 0} → (C → Option ℕ → C → Type 0) → Option ℕ → C → C → ℕ → Ledger S
-      → Ledger S → Option (List ℕ) → Option (List ℕ) → Result JobStatus WriteFault → BoundLink
+  abbrev pub Turns : {C E : Type 0} → (C → Option ℕ → C → Type 0) → Option ℕ → C → C
+      → (E → Bool → E → Type 0) → E → E → ℕ → Ledger S → Ledger S → Option (List ℕ) → Option (List ℕ) → Result JobStatus WriteFault → BoundLink
       → Type 0
-  Turns gives day first last count opened served old new result link =
+  Turns gives day first last says begun ended count opened served old new result link =
       ServesTurns (λ (b : Ledger S). b.faults) (IsHonest g) (λ b. b.terms) (history_of g)
-      (committed_of g) (IsOverCleanDisk g) (MayFind g) gives day (new_trace, opened)
-      (link.trace, served) first last old new count result
+      (committed_of g) (IsOverCleanDisk g) (MayFind g) gives day says
+      (new_trace, opened) (link.trace, served) first last begun ended old new count result
+
+  -- The same, where the turns may end before their count only if a file is named that ends them.
+  abbrev pub TurnsUntil : {C : Type 0} → (C → Option ℕ → C → Type 0) → Option ℕ → C → C → ℕ → Bool
+      → Ledger S → Ledger S → Option (List ℕ) → Option (List ℕ) → Result JobStatus WriteFault
+      → BoundLink → Type 0
+  TurnsUntil gives day first last count named opened served old new result link =
+      (after : Bool)
+      × Turns gives day first last EndsIfNamed named after count opened served old new result link

@@ -1,6 +1,7 @@
 -- Defines what each job has done when it ends, and what it has printed.
 use denote.RattleType.{RattleType}
-use Rattle.std.specs.Prelude.{◌≡◌, ◌⊎◌, ℕ, Bool, true, false, List, [], ◌∷◌, ◌++◌, codes, Option}
+use Rattle.std.specs.Prelude.{◌≡◌, ◌≢◌, ◌⊎◌, ℕ, Bool, true, is_some, List, [], ◌∷◌, ◌++◌, codes}
+use Rattle.std.specs.Prelude.{Option}
 use Rattle.std.specs.Prelude.{Some, None, Result, Ok, Err, IsOk, IfOk, IfSome}
 use Rattle.std.specs.Io.KnownBytes.{Appends}
 use Rattle.sqlite_disk.specs.declared.start.Start.{Ghosts}
@@ -29,13 +30,17 @@ use Rattle.s10_jobs.specs.Words.{open_fault_words}
 use Rattle.s10_jobs.specs.declared.job.Job.{Job}
 use Rattle.s10_jobs.specs.declared.job.Job.TheVariants as job
 use Rattle.s10_jobs.specs.declared.reporting.Report.{Report}
-use Rattle.s10_jobs.specs.declared.reporting.Report.TheVariants.{Ranges, Issues}
+use Rattle.s10_jobs.specs.declared.reporting.Report.TheVariants.{Issues}
+use Rattle.s10_jobs.specs.declared.report_kind.ReportKind.{ReportKind}
+use Rattle.s10_jobs.specs.declared.report_kind.ReportKind.TheVariants.{Issues as OfIssues}
 use Rattle.s10_host.specs.Audited.{HasFound, HoldsAudited, audit_line, audit_status}
-use Rattle.s10_jobs.specs.Reporting.{report_lines, PrintsReport}
+use Rattle.s10_jobs.specs.Reporting.{report_lines, report_on, PrintsReport}
 use Rattle.s10_jobs.specs.Days.{IsTaken}
 use Rattle.s10_jobs.specs.Questioning.{IsAsked, IsUnasked}
 use Rattle.s10_host.specs.declared.loop_resources.LoopResources.{LoopResources}
-use Rattle.s10_host.specs.Closing.{Turns}
+use Rattle.s10_host.specs.Closing.{TurnsUntil}
+use Rattle.s10_host.specs.Called.{HasCalled}
+use Rattle.s10_host.specs.NotesJobs.{HasMadeNotes, HasAskedAgain, HasAskedByNotes}
 use Rattle.s10_host.specs.LoopRun.{HasRunLoop}
 use Rattle.s10_host.specs.Files.{FileConnection, FileLedger, ClosedFiles, WhereClean, IsFoundIn}
 use Rattle.s10_host.specs.Files.{IsEmptyBook, IsFoundBook, ClosesInto, LeavesClean, IsFileFault}
@@ -68,21 +73,19 @@ abbrev pub EndsAs : Result (Unit {0}) BookFault → Result JobStatus WriteFault 
 EndsAs (Ok _) done between new result = (result ≡ done) × (new ≡ between)
 EndsAs (Err fault) done between new result = FailsByClosing done between new result
 
--- The report is the one asked for: that of the issues, or that of the ranges on the given day or, if
--- none is given, on the first day that the source gave.
-pub record IsAskedFor {C : Type 0} (gives : C → Option ℕ → C → Type 0) (is_of_issues : Bool)
+-- The report is the one asked for: that of the issues, or another one on the given day or, if none is
+-- given, on the first day that the source gave.
+pub record IsAskedFor {C : Type 0} (gives : C → Option ℕ → C → Type 0) (kind : ReportKind)
     (day : Option ℕ) (begun ended : C) (report : Report) : Type 0 where
-  pub issues : is_of_issues ≡ true → (report ≡ Issues) × (ended ≡ begun)
-  pub ranges : is_of_issues ≡ false → (d : ℕ) × (report ≡ Ranges d)
+  pub issues : kind ≡ OfIssues → (report ≡ Issues) × (ended ≡ begun)
+  pub dated : kind ≢ OfIssues → (d : ℕ) × (report ≡ report_on kind d)
       × IsTaken gives day (Some d) begun ended
 
 -- The question was asked over the link that is returned, or the line says why it was not.
-pub record HasAsked (question : Question) (old new : Option (List ℕ))
-    (result : Result JobStatus WriteFault) (link : Option BoundLink) : Type 0 where
-  pub asked : IfSome link (λ l. IsAsked question l old new result)
-  pub unasked : link ≡ None
-      → IfOk result (λ status. (line : List ℕ) × IsUnasked question status line
-      × Appends old new line)
+abbrev pub HasAsked : Question → Option (List ℕ) → Option (List ℕ) → Result JobStatus WriteFault
+    → Option BoundLink → Type 0
+HasAsked question old new result link = HasCalled
+    (λ l. IsAsked question l old new result) (IsUnasked question) old new result link
 
 -- The calls of a loop were made on the given day or, if none is given, on the first day that the
 -- source gave. Or it gave no day, and nothing was bound.
@@ -133,23 +136,23 @@ module _ (S : RattleType) (first : Ghosts S.Denot) where
   -- The ledger was served in turns, which are all that the link carried, and closed in these files.
   pub record IsServed {C : Type 0} (gives : C → Option ℕ → C → Type 0)
       (opened : FileLedger S first) (day : Option ℕ) (begun ended : C) (count : ℕ)
-      (old new : Option (List ℕ)) (result : Result JobStatus WriteFault) (link : BoundLink)
+      (named : Bool) (old new : Option (List ℕ)) (result : Result JobStatus WriteFault) (link : BoundLink)
       (files : ClosedFiles S first) : Type 0 where
     pub served : FileLedger S first
     pub turned : Result JobStatus WriteFault
     pub between : Option (List ℕ)
-    pub turns : Turns over_files gives day begun ended count opened served old between turned link
+    pub turns : TurnsUntil over_files gives day begun ended count named opened served old between turned link
     pub was_honest : IsHonest over_files served → IsHonest over_files opened
     pub ends : EndsServed served turned between new result files
 
   -- The ledger was served in turns, and could not be closed.
   pub record IsLost {C : Type 0} (gives : C → Option ℕ → C → Type 0) (opened : FileLedger S first)
-      (day : Option ℕ) (begun ended : C) (count : ℕ) (old new : Option (List ℕ))
+      (day : Option ℕ) (begun ended : C) (count : ℕ) (named : Bool) (old new : Option (List ℕ))
       (result : Result JobStatus WriteFault) (link : BoundLink) : Type 0 where
     pub served : FileLedger S first
     pub turned : Result JobStatus WriteFault
     pub between : Option (List ℕ)
-    pub turns : Turns over_files gives day begun ended count opened served old between turned link
+    pub turns : TurnsUntil over_files gives day begun ended count named opened served old between turned link
     pub was_honest : IsHonest over_files served → IsHonest over_files opened
     pub printed : FailsByClosing turned between new result
 
@@ -171,13 +174,15 @@ module _ (S : RattleType) (first : Ghosts S.Denot) where
   IsUnopened old new result (Some files) =
       IsRefusedIn (λ fault db. IsOpeningRefusal db fault) old new result files
 
-  -- Why there is no link, in this order: the address does not read, the ledger cannot be opened,
-  -- the address cannot be bound.
-  abbrev pub HasNoLink : List ℕ → Option (List ℕ) → Option (List ℕ) → Result JobStatus WriteFault
+  -- Why there is no link, in this order: the address does not read, the file that ends the turns is
+  -- there, the ledger cannot be opened, the address cannot be bound.
+  abbrev pub HasNoLink : List ℕ → Bool → Option (List ℕ) → Option (List ℕ) → Result JobStatus WriteFault
       → Option (ClosedFiles S first) → Type 0
-  HasNoLink bind old new result files =
+  HasNoLink bind named old new result files =
       ((¬ IsPeerText bind) × (files ≡ None) × IfOk result (λ status. (status ≡ Refused)
       × Appends old new (refused_line (codes "peer" ∷ []))))
+      ⊎ (IsPeerText bind × (named ≡ true) × (files ≡ None) × IfOk result (λ status.
+      (status ≡ Refused) × Appends old new (refused_line (codes "until" ∷ []))))
       ⊎ (IsPeerText bind × IsUnopened old new result files)
       ⊎ (IsPeerText bind × (opened : FileLedger S first) × WhereClean (IsFoundBook (image_at first))
       opened × IsUnlinked opened old new result files)
@@ -186,15 +191,15 @@ module _ (S : RattleType) (first : Ghosts S.Denot) where
   -- was written, it was honest when it was closed, and so when it was opened. Or there is no link,
   -- and the line says why.
   pub record HasServed {C : Type 0} (gives : C → Option ℕ → C → Type 0) (bind : List ℕ)
-      (day : Option ℕ) (begun ended : C) (count : ℕ) (old new : Option (List ℕ))
+      (day : Option ℕ) (begun ended : C) (count : ℕ) (named : Bool) (old new : Option (List ℕ))
       (result : Result JobStatus WriteFault) (files : Option (ClosedFiles S first))
       (link : Option BoundLink) : Type 0 where
     pub at : IfSome link (λ l. (at : Peer) × SpellsPeer bind at × IsBoundAt at l.at)
     pub served : IfSome link (λ l. (opened : FileLedger S first)
         × WhereClean (IsFoundBook (image_at first)) opened
-        × IfSome files (IsServed gives opened day begun ended count old new result l)
-        × (files ≡ None → IsLost gives opened day begun ended count old new result l))
-    pub unlinked : link ≡ None → HasNoLink bind old new result files
+        × IfSome files (IsServed gives opened day begun ended count named old new result l)
+        × (files ≡ None → IsLost gives opened day begun ended count named old new result l))
+    pub unlinked : link ≡ None → HasNoLink bind named old new result files
 
   -- The report of the ledger's history was printed, unless the book or the writer failed.
   abbrev pub Writes : Report → FileLedger S first → FileLedger S first → Option (List ℕ)
@@ -234,13 +239,14 @@ module _ (S : RattleType) (first : Ghosts S.Denot) where
 
   -- The report asked for was printed. Or the line says why there is none, in this order: no day was
   -- given and the source gave none, or the ledger cannot be opened.
-  abbrev pub HasReported : {C : Type 0} → (C → Option ℕ → C → Type 0) → Bool → Option ℕ → C → C
+  abbrev pub HasReported : {C : Type 0} → (C → Option ℕ → C → Type 0) → ReportKind → Option ℕ → C
+      → C
       → Option (List ℕ) → Option (List ℕ) → Result JobStatus WriteFault
       → Option (ClosedFiles S first) → Type 0
-  HasReported gives is_of_issues day begun ended old new result files =
-      ((is_of_issues ≡ false) × IsTaken gives day None begun ended × (files ≡ None)
+  HasReported gives kind day begun ended old new result files =
+      ((kind ≢ OfIssues) × IsTaken gives day None begun ended × (files ≡ None)
       × IfOk result (λ status. (status ≡ Failed) × Appends old new (codes "clock\n")))
-      ⊎ ((report : Report) × (taken : _) × IsAskedFor gives is_of_issues day begun taken report
+      ⊎ ((report : Report) × (taken : _) × IsAskedFor gives kind day begun taken report
       × (IsUnopened old new result files ⊎ IsReportOf report old new result files))
 
   -- The ledger in the files was audited, the finding was printed, and the files were closed as they
@@ -273,12 +279,18 @@ module _ (S : RattleType) (first : Ghosts S.Denot) where
       → Option (ClosedFiles S first) → Option BoundLink → Option LoopResources → Type 0
   HasEnded gives (job.Create ledger settings) begun ended old new result files link looped =
       HasCreated settings old new result files
-  HasEnded gives (job.Serve ledger bind count day) begun ended old new result files link looped =
-      HasServed gives bind.now day begun ended count old new result files link
+  HasEnded gives (job.Serve ledger bind count day until) begun ended old new result files link looped =
+      HasServed gives bind.now day begun ended count (is_some until) old new result files link
   HasEnded gives (job.Ask question) begun ended old new result files link looped =
       HasAsked question old new result link
-  HasEnded gives (job.Report ledger is_of_issues day) begun ended old new result files link looped =
-      HasReported gives is_of_issues day begun ended old new result files
+  HasEnded gives (job.AskByNotes question) begun ended old new result files link looped =
+      HasAskedByNotes question old new result link
+  HasEnded gives (job.Notes file customer first lst) begun ended old new result files link looped =
+      HasMadeNotes first lst old new result
+  HasEnded gives (job.Again to notes tries) begun ended old new result files link looped =
+      HasAskedAgain to.now tries old new result link
+  HasEnded gives (job.Report ledger kind day) begun ended old new result files link looped =
+      HasReported gives kind day begun ended old new result files
   HasEnded gives (job.Audit ledger) begun ended old new result files link looped =
       HasAudited old new result files
   HasEnded gives (job.Loop day) begun ended old new result files link looped =

@@ -1,6 +1,6 @@
 -- Defines what a job does with a ledger, from its creation or opening to its end, over any
 -- connection and over files.
-use Rattle.std.specs.Prelude.{◌≡◌, ◌⊎◌, ℕ, false, List, [], Option, None, Result, Ok, IfOk, IfSome}
+use Rattle.std.specs.Prelude.{◌≡◌, ◌⊎◌, ℕ, Bool, false, List, [], Option, None, Result, Ok, IfOk, IfSome}
 use Rattle.std.specs.Io.KnownBytes.{Appends}
 use Rattle.sqlite_disk.specs.declared.Disk as disk
 use Rattle.sqlite_disk.specs.declared.Files.{Files}
@@ -57,27 +57,28 @@ module _ {S : Type 0} (g : Ghosts S) where
 
   -- The ledger was opened from a connection, then served in turns at this address unless it could
   -- not be bound, and then closed.
-  abbrev pub HasBeenServed : {C : Type 0} → (C → Option ℕ → C → Type 0) → Peer → ℕ → Option ℕ → C
-      → C → Held S → Option (List ℕ) → Option (List ℕ) → Result JobStatus WriteFault
+  abbrev pub HasBeenServed : {C E : Type 0} → (C → Option ℕ → C → Type 0) → Peer → ℕ → Option ℕ → C
+      → C → (E → Bool → E → Type 0) → E → E → Held S → Option (List ℕ) → Option (List ℕ) → Result JobStatus WriteFault
       → Option BoundLink → Held S → Result (Unit {0}) BookFault → Type 0
-  HasBeenServed gives at count day first last was old new done link closed commit_result =
+  HasBeenServed gives at count day first last says begun ended was old new done link closed commit_result =
       (opened : Ledger S) × IsOpenedFrom was opened × (served : Ledger S)
       × IsClosedAs g served closed commit_result
       × (link ≡ None → IsUnbound opened served old new done)
       × IfSome link (λ l. IsBoundAt at l.at
-      × Turns g gives day first last count opened served old new done l)
+      × Turns g gives day first last says begun ended count opened served old new done l)
 
   -- What a job other than an audit did over a connection, the days that it took, what it printed, the
   -- link and the connection that it returned, and whether all calls are committed.
-  abbrev pub HasRunOver : {C : Type 0} → (C → Option ℕ → C → Type 0) → LedgerJob → C → C → Held S
+  abbrev pub HasRunOver : {C E : Type 0} → (C → Option ℕ → C → Type 0) → LedgerJob → C → C
+      → (E → Bool → E → Type 0) → E → E → Held S
       → Option (List ℕ) → Option (List ℕ) → Result JobStatus WriteFault → Option BoundLink → Held S
       → Result (Unit {0}) BookFault → Type 0
-  HasRunOver gives (Create terms) first last was old new done link closed commit_result =
+  HasRunOver gives (Create terms) first last says begun ended was old new done link closed commit_result =
       (book : Ledger S) × IsMadeWith terms was book × IsClosedAs g book closed commit_result
       × (done ≡ Ok Done) × (new ≡ old) × (link ≡ None)
-  HasRunOver gives (Serve at count day) first last was old new done link closed commit_result =
-      HasBeenServed gives at count day first last was old new done link closed commit_result
-  HasRunOver gives (Report report) first last was old new done link closed commit_result =
+  HasRunOver gives (Serve at count day) first last says begun ended was old new done link closed commit_result =
+      HasBeenServed gives at count day first last says begun ended was old new done link closed commit_result
+  HasRunOver gives (Report report) first last says begun ended was old new done link closed commit_result =
       (opened : Ledger S) × IsOpenedFrom was opened × (reported : Ledger S)
       × IsClosedAs g reported closed commit_result
       × Unchanged (λ (b : Ledger S). history_of g b) (λ (b : Ledger S). committed_of g b)
@@ -86,7 +87,7 @@ module _ {S : Type 0} (g : Ghosts S) where
       → IfOk done (PrintsReport opened.faults reported.faults old new
       (report_lines report (history_of g opened) opened.terms)))
       × (link ≡ None)
-  HasRunOver gives Audit first last was old new done link closed commit_result = ⊥
+  HasRunOver gives Audit first last says begun ended was old new done link closed commit_result = ⊥
 
   -- The database that the connection showed is refused as a ledger, if the disk is clean and the
   -- connection open.
@@ -119,15 +120,15 @@ IsRefusedBy Audit fault db = IsOpeningRefusal db fault
 module _ {D : Type 0} {g : disk.Ghosts D} where
   -- The job was run over a connection, and the ledger was closed in these files or could not be
   -- closed.
-  pub record IsWorkedOver {C : Type 0} (gives : C → Option ℕ → C → Type 0) (job : LedgerJob)
-      (first last : C) (was : Held (FileStore D g)) (old new : Option (List ℕ))
+  pub record IsWorkedOver {C E : Type 0} (gives : C → Option ℕ → C → Type 0) (job : LedgerJob)
+      (first last : C) (says : E → Bool → E → Type 0) (begun ended : E) (was : Held (FileStore D g)) (old new : Option (List ℕ))
       (result : Result JobStatus WriteFault) (files : Option (Files D)) (link : Option BoundLink) :
       Type 0 where
     pub closed : Held (FileStore D g)
     pub done : Result JobStatus WriteFault
     pub between : Option (List ℕ)
     pub committed : Result (Unit {0}) BookFault
-    pub worked : HasRunOver over_files gives job first last was old between done link closed
+    pub worked : HasRunOver over_files gives job first last says begun ended was old between done link closed
         committed
     pub kept : IfSome files (λ f. Copies closed f × EndsAs committed done between new result)
     pub lost : files ≡ None → FailsByClosing done between new result
@@ -144,9 +145,9 @@ module _ {D : Type 0} {g : disk.Ghosts D} where
     pub no_link : link ≡ None
 
   -- How a job over a connection ended: it was run, or its ledger was refused.
-  abbrev pub EndsOver : {C : Type 0} → (C → Option ℕ → C → Type 0) → LedgerJob → C → C
-      → Held (FileStore D g) → Option (List ℕ) → Option (List ℕ) → Result JobStatus WriteFault
+  abbrev pub EndsOver : {C E : Type 0} → (C → Option ℕ → C → Type 0) → LedgerJob → C → C
+      → (E → Bool → E → Type 0) → E → E → Held (FileStore D g) → Option (List ℕ) → Option (List ℕ) → Result JobStatus WriteFault
       → Option (Files D) → Option BoundLink → Type 0
-  EndsOver gives job first last was old new result files link =
-      IsWorkedOver gives job first last was old new result files link
+  EndsOver gives job first last says begun ended was old new result files link =
+      IsWorkedOver gives job first last says begun ended was old new result files link
       ⊎ IsRefusedOver job was old new result files link

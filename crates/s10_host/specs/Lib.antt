@@ -1,7 +1,10 @@
 pub mod Audited
+pub mod UntilFile
 pub mod Closing
 pub mod Files
 pub mod LoopRun
+pub mod Called
+pub mod NotesJobs
 pub mod Jobs
 pub mod JobResources
 pub mod LedgerJobs

@@ -8,7 +8,7 @@ ghost use Rattle.s10_host.specs.Audited.{HasFound, audit_line, audit_status};
 
 use s10_book::Book;
 use s10_jobs::{JobStatus, write_ledger_fault};
-use s10_ledger::{ClosedBook, Observer, OpenFault, Refused, SqlBook};
+use s10_ledger::{ClosedBook, HashSeed, Observer, OpenFault, Refused, SqlBook};
 use s10_lines::{WriteFault, write_decimal, write_text, write_word};
 use sqlite::{Alter, Connection};
 use std::alloc::Global;
@@ -25,6 +25,7 @@ use std::io::Write;
 /// `WriteFault` if the output fails.
 pub fn run_audit<S: Alter, K: Observer, W: Write>(
     alloc: Global,
+    seed: HashSeed,
     connection: Connection<S>,
     observer: &mut K,
     output: &mut W,
@@ -34,20 +35,21 @@ pub fn run_audit<S: Alter, K: Observer, W: Write>(
         × IfOk result.0 (λ status. (status ≡ audit_status found)
         × Appends (W.contents output.old) (W.contents output.new) (audit_line found)) }
 {
-    let (found, left) = audit_ledger(alloc, connection, observer);
+    let (found, left) = audit_ledger(alloc, seed, connection, observer);
     (write_audit(found, output), left)
 }
 
 // Returns the number of calls, or why there is no ledger. Also returns the connection.
 fn audit_ledger<S: Alter, K: Observer>(
     alloc: Global,
+    seed: HashSeed,
     connection: Connection<S>,
     observer: &mut K,
 ) -> (Result<u32, OpenFault>, Connection<S>)
     requires idle { connection.in_transaction ≡ false }
     ensures { HasFound S.Store connection result.1 result.0 }
 {
-    match SqlBook::open(alloc, connection, observer) {
+    match SqlBook::open(alloc, seed, connection, observer) {
         Ok(book) => {
             let count = book.len();
             let ClosedBook {

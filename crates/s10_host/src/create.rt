@@ -5,15 +5,18 @@ ghost use Rattle.std.specs.Io.KnownBytes.{Appends};
 ghost use Rattle.s10_host.specs.JobResources.{files_in};
 ghost use Rattle.s10_host.specs.Jobs.{HasCreated};
 
+use crate::drawn_seed::drawn_seed;
 use crate::files::{ClosedFiles, connect_to_new, find_or_create};
 use crate::job_end::JobEnd;
 use crate::ledger_file::LedgerFile;
 use crate::ledger_job::LedgerJob;
 use crate::on_file::{not_connected, run_on_file};
 use s10_history::Settings;
-use s10_jobs::{Days, JobStatus};
+use s10_jobs::{AtCount, Days, JobStatus};
+use s10_ledger::HashSeed;
 use s10_lines::{WriteFault, write_text};
 use sqlite::Start;
+use std::io;
 use std::io::Write;
 
 /// Creates a ledger. Prints `created` only after it is closed in its file.
@@ -21,6 +24,7 @@ pub(crate) fn run_create<S: Start, D: Days, W: Write>(
     rt: &HostRuntime,
     ledger: &str,
     settings: Settings,
+    seed: io::Result<HashSeed>,
     start: S,
     days: &mut D,
     out: &mut W,
@@ -28,8 +32,12 @@ pub(crate) fn run_create<S: Start, D: Days, W: Write>(
     ensures { HasCreated S.row S.Start settings (W.contents out.old) (W.contents out.new)
         result.done (files_in result.resources) }
 {
+    let seed = match drawn_seed(rt, seed) {
+        Ok(seed) => seed,
+        Err(fault) => return not_connected(fault, out),
+    };
     match find_or_create(rt, ledger) {
-        Ok(file) => create_in(rt, &file, settings, start, days, out),
+        Ok(file) => create_in(rt, &file, seed, settings, start, days, out),
         Err(fault) => not_connected(fault, out),
     }
 }
@@ -38,6 +46,7 @@ pub(crate) fn run_create<S: Start, D: Days, W: Write>(
 fn create_in<S: Start, D: Days, W: Write>(
     rt: &HostRuntime,
     file: &LedgerFile<'_>,
+    seed: HashSeed,
     settings: Settings,
     start: S,
     days: &mut D,
@@ -49,7 +58,16 @@ fn create_in<S: Start, D: Days, W: Write>(
     match connect_to_new(rt, file, start) {
         Ok(connection) => {
             let job = LedgerJob::Create(settings);
-            let JobEnd { done, resources } = run_on_file(rt, file, connection, job, days, out);
+            let JobEnd { done, resources } = run_on_file(
+                rt,
+                file,
+                seed,
+                connection,
+                job,
+                days,
+                &mut AtCount,
+                out,
+            );
             if is_done(&done) {
                 return JobEnd {
                     done: write_created(out),

@@ -9,14 +9,18 @@ use crate::create::run_create;
 use crate::files::ClosedFiles;
 use crate::job_end::JobEnd;
 use crate::looping::run_loop_on;
+use crate::notes::{run_again, run_by_notes, run_notes};
 use crate::report::run_report;
 use crate::serve::run_serve;
 use s10_jobs::{Days, Job};
+use s10_ledger::HashSeed;
 use sqlite::Start;
+use std::io;
 use std::io::Write;
 
 /// Runs a job. Returns its result and its resources. The source of days is asked only if the job
-/// needs a day and none is given.
+/// needs a day and none is given. A job over a ledger file that has no seed for its hashes ends
+/// before the file is looked up: the line is `ledger store`.
 ///
 /// # Errors
 ///
@@ -24,6 +28,7 @@ use std::io::Write;
 pub fn run_job<S: Start, D: Days, W: Write>(
     rt: &HostRuntime,
     job: &Job<'_>,
+    seed: io::Result<HashSeed>,
     start: S,
     days: &mut D,
     out: &mut W,
@@ -33,20 +38,31 @@ pub fn run_job<S: Start, D: Days, W: Write>(
         (looped_in result.resources) }
 {
     match job {
-        Job::Create { ledger, settings } => run_create(rt, *ledger, *settings, start, days, out),
+        Job::Create { ledger, settings } => run_create(
+            rt, *ledger, *settings, seed, start, days, out,
+        ),
         Job::Serve {
             ledger,
             bind,
             count,
             day,
-        } => run_serve(rt, *ledger, *bind, *count, *day, start, days, out),
+            until,
+        } => run_serve(
+            rt, *ledger, *bind, *count, *day, *until, seed, start, days, out,
+        ),
         Job::Ask(question) => run_question(rt, question, out),
-        Job::Report {
-            ledger,
-            is_of_issues,
-            day,
-        } => run_report(rt, *ledger, *is_of_issues, *day, start, days, out),
-        Job::Audit { ledger } => run_audit_on_file(rt, *ledger, start, days, out),
+        Job::AskByNotes(question) => run_by_notes(rt, question, out),
+        Job::Notes {
+            file,
+            customer,
+            first,
+            last,
+        } => run_notes(rt, *file, *customer, *first, *last, out),
+        Job::Again { to, notes, tries } => run_again(rt, *to, *notes, *tries, out),
+        Job::Report { ledger, kind, day } => run_report(
+            rt, *ledger, *kind, *day, seed, start, days, out,
+        ),
+        Job::Audit { ledger } => run_audit_on_file(rt, *ledger, seed, start, days, out),
         Job::Loop { day } => run_loop_on(rt, *day, days, out),
     }
 }

@@ -22,7 +22,7 @@ use s10_history::Settings;
 use s10_jobs::{
     Days, JobStatus, bind_link, fail_by_clock, fail_by_ledger, fail_by_link, make_calls, next_day,
 };
-use s10_ledger::{ClosedBook, SqlBook};
+use s10_ledger::{ClosedBook, HashSeed, SqlBook};
 use s10_lines::WriteFault;
 use s10_link::{LinkFault, Peer, UdpLink};
 use std::io::Write;
@@ -96,7 +96,7 @@ pub fn run_loop<R: Net + Eprint + AllocGlobal, W: Write>(
     let Some(settings) = Settings::new(30, 100) else {
         unreachable!()
     };
-    let book = match SqlBook::in_memory(rt.alloc(), settings) {
+    let book = match SqlBook::in_memory(rt.alloc(), HashSeed::fixed(), settings) {
         Ok(book) => book,
         Err(fault) => return (fail_by_ledger(fault, out), None),
     };

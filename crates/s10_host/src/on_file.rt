@@ -19,8 +19,8 @@ use crate::over_store::run_over_store;
 use crate::progress::Progress;
 use crate::worked::Worked;
 use s10_book::BookFault;
-use s10_jobs::{Days, JobStatus, fail_by_ledger};
-use s10_ledger::{ClosedBook, OpenFault, Refused};
+use s10_jobs::{Days, Ending, JobStatus, fail_by_ledger};
+use s10_ledger::{ClosedBook, HashSeed, OpenFault, Refused};
 use s10_lines::WriteFault;
 use sqlite::{Connection, FileStore, Files};
 use sqlite_disk::Disk;
@@ -31,16 +31,19 @@ use std::io::Write;
 ///
 /// If the file was refused, removes the log that opening it created. An audit leaves its files as
 /// they are: their last commits may be in the log alone.
-pub(crate) fn run_on_file<F: Disk + Drop, D: Days, W: Write>(
+pub(crate) fn run_on_file<F: Disk + Drop, D: Days, E: Ending, W: Write>(
     rt: &HostRuntime,
     file: &LedgerFile<'_>,
+    seed: HashSeed,
     connection: Connection<FileStore<F>>,
     job: LedgerJob,
     days: &mut D,
+    ends: &mut E,
     out: &mut W,
 ) -> JobEnd<Files<F>>
     requires idle { connection.in_transaction ≡ false }
-    ensures worked { job ≢ LedgerJob.Audit → EndsOver D.gives job days.old days.new connection
+    ensures worked { job ≢ LedgerJob.Audit → EndsOver D.gives job days.old days.new E.says ends.old ends.new
+        connection
         (W.contents out.old) (W.contents out.new) result.done (files_in result.resources)
         (link_in result.resources) }
     ensures audited { job ≡ LedgerJob.Audit → (files : _) × (files_in result.resources ≡ Some files)
@@ -50,7 +53,7 @@ pub(crate) fn run_on_file<F: Disk + Drop, D: Days, W: Write>(
         × LeavesClean left files × AreFilesOf left files × KeepsAudited connection left found files }
 {
     let mut progress = Progress::new(rt, file.path);
-    let worked = match run_over_store(rt, connection, job, days, &mut progress, out) {
+    let worked = match run_over_store(rt, seed, connection, job, days, ends, &mut progress, out) {
         Ok(worked) => worked,
         Err(refusal) => {
             let Refused { fault, connection } = refusal;

@@ -11,31 +11,40 @@ use crate::audit::run_audit;
 use crate::ledger_job::LedgerJob;
 use crate::worked::Worked;
 use s10_book::Batched;
-use s10_jobs::{Days, JobStatus, serve_at, write_report};
-use s10_ledger::{Observer, Refused, SqlBook};
+use s10_jobs::{Days, Ending, JobStatus, serve_at, write_report};
+use s10_ledger::{HashSeed, Observer, Refused, SqlBook};
 use sqlite::{Alter, Connection};
 use std::io::Write;
 
 /// Runs the job over the ledger of a connection.
 ///
 /// A ledger is created or opened for the job, and closed whether or not the job succeeded. A new
-/// ledger stays as it was created.
+/// ledger stays as it was created. The hashes of its index have this seed.
 ///
 /// # Errors
 ///
 /// `Refused` if the ledger cannot be created or opened. Nothing is printed, and the connection shows
 /// what it showed.
-pub(crate) fn run_over_store<A: Alter + Drop, D: Days, K: Observer, W: Write>(
+pub(crate) fn run_over_store<A, D, E, K, W>(
     rt: &HostRuntime,
+    seed: HashSeed,
     connection: Connection<A>,
     job: LedgerJob,
     days: &mut D,
+    ends: &mut E,
     observer: &mut K,
     out: &mut W,
 ) -> Result<Worked<A>, Refused<A>>
+where
+    A: Alter + Drop,
+    D: Days,
+    E: Ending,
+    K: Observer,
+    W: Write,
     requires idle { connection.in_transaction ≡ false }
     ensures worked { IfOk result (λ w. (done link ledger : _) → w ≡ Worked.Closed done link ledger
-        → (job ≢ LedgerJob.Audit) × HasRunOver A.Store D.gives job days.old days.new connection
+        → (job ≢ LedgerJob.Audit) × HasRunOver A.Store D.gives job days.old days.new E.says ends.old ends.new
+        connection
         (W.contents out.old) (W.contents out.new) done link ledger.connection ledger.committed) }
     ensures refused { IfErr result (λ r. (job ≢ LedgerJob.Audit)
         × IsRefusedAs A.Store job connection r.connection r.fault
@@ -49,7 +58,7 @@ pub(crate) fn run_over_store<A: Alter + Drop, D: Days, K: Observer, W: Write>(
 {
     match job {
         LedgerJob::Create(settings) => {
-            let book = SqlBook::create(rt.alloc(), connection, settings, observer)?;
+            let book = SqlBook::create(rt.alloc(), seed, connection, settings, observer)?;
             Ok(Worked::Closed {
                 done: Ok(JobStatus::Done),
                 link: None,
@@ -57,9 +66,19 @@ pub(crate) fn run_over_store<A: Alter + Drop, D: Days, K: Observer, W: Write>(
             })
         }
         LedgerJob::Serve { at, count, day } => {
-            let book = SqlBook::open(rt.alloc(), connection, observer)?;
+            let book = SqlBook::open(rt.alloc(), seed, connection, observer)?;
             let batched = Batched::new(book);
-            let (done, link, served) = serve_at(rt, rt.alloc(), at, batched, days, count, day, out);
+            let (done, link, served) = serve_at(
+                rt,
+                rt.alloc(),
+                at,
+                batched,
+                days,
+                ends,
+                count,
+                day,
+                out,
+            );
             Ok(Worked::Closed {
                 done,
                 link,
@@ -67,7 +86,7 @@ pub(crate) fn run_over_store<A: Alter + Drop, D: Days, K: Observer, W: Write>(
             })
         }
         LedgerJob::Report(report) => {
-            let mut book = SqlBook::open(rt.alloc(), connection, observer)?;
+            let mut book = SqlBook::open(rt.alloc(), seed, connection, observer)?;
             let done = write_report(&mut book, report, out);
             Ok(Worked::Closed {
                 done,
@@ -76,7 +95,7 @@ pub(crate) fn run_over_store<A: Alter + Drop, D: Days, K: Observer, W: Write>(
             })
         }
         LedgerJob::Audit => {
-            let (done, left) = run_audit(rt.alloc(), connection, observer, out);
+            let (done, left) = run_audit(rt.alloc(), seed, connection, observer, out);
             Ok(Worked::Audited {
                 done,
                 store: left.into_store(),

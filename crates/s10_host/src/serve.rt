@@ -1,32 +1,40 @@
 //! Serves the ledger in a file at an address.
 
+ghost use Rattle.std.specs.Prelude.{is_some};
 ghost use Rattle.s10_host.specs.JobResources.{files_in, link_in};
 ghost use Rattle.s10_host.specs.Jobs.{HasServed};
 
+use crate::drawn_seed::drawn_seed;
 use crate::files::{ClosedFiles, connect_to_ledger};
 use crate::job_end::JobEnd;
 use crate::job_resources::JobResources;
 use crate::ledger_file::LedgerFile;
 use crate::ledger_job::LedgerJob;
 use crate::on_file::{not_connected, run_on_file};
+use crate::until_file::{UntilFile, is_there};
 use s10_jobs::{Days, refuse};
+use s10_ledger::HashSeed;
 use s10_link::Peer;
 use sqlite::Start;
+use std::io;
 use std::io::Write;
 
-/// Serves the ledger at the address, unless the address cannot be read.
+/// Serves the ledger at the address, unless the address cannot be read or the file that ends the turns
+/// is there already.
 pub(crate) fn run_serve<S: Start, D: Days, W: Write>(
     rt: &HostRuntime,
     ledger: &str,
     bind: &str,
     count: u32,
     day: Option<u32>,
+    until: Option<&str>,
+    seed: io::Result<HashSeed>,
     start: S,
     days: &mut D,
     out: &mut W,
 ) -> JobEnd<ClosedFiles<S>>
     ensures { HasServed S.row S.Start D.gives bind.now day days.old days.new count
-        (W.contents out.old) (W.contents out.new) result.done (files_in result.resources)
+        (is_some until.entry) (W.contents out.old) (W.contents out.new) result.done (files_in result.resources)
         (link_in result.resources) }
 {
     let Some(at) = Peer::read(bind.as_bytes()) else {
@@ -35,11 +43,22 @@ pub(crate) fn run_serve<S: Start, D: Days, W: Write>(
             resources: JobResources::Nothing,
         };
     };
+    if is_there(rt, until) {
+        return JobEnd {
+            done: refuse(b"until", out),
+            resources: JobResources::Nothing,
+        };
+    }
+    let seed = match drawn_seed(rt, seed) {
+        Ok(seed) => seed,
+        Err(fault) => return not_connected(fault, out),
+    };
     eprint_opening(rt, ledger);
     let job = LedgerJob::Serve { at, count, day };
+    let mut ends = UntilFile::new(rt, until);
     let file = LedgerFile::find(rt, ledger);
     match connect_to_ledger(rt, &file, start) {
-        Ok(connection) => run_on_file(rt, &file, connection, job, days, out),
+        Ok(connection) => run_on_file(rt, &file, seed, connection, job, days, &mut ends, out),
         Err(fault) => not_connected(fault, out),
     }
 }

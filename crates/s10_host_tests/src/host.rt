@@ -3,6 +3,7 @@
 
 mod buffers;
 mod command_lines;
+mod each_line;
 mod job_words;
 mod jobs;
 mod kept_files;

@@ -8,6 +8,7 @@ mod committing;
 mod creating;
 mod many_draws;
 mod many_ranges;
+mod marks;
 mod old_ledgers;
 mod openings;
 mod readings;

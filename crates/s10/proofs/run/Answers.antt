@@ -12,21 +12,20 @@ use Rattle.s10.proofs.Buffers.{new_writer}
 use Rattle.s10.proofs.run.Goals as goal
 
 -- The words of a line that asks for a job.
-words_ran : (line : LineEnd) (asked : Option Job) (job : Job) (words : List Text)
-    (input old new : Option (List ℕ)) → line ≡ Asks asked → asked ≡ Some job
+words_ran : (line : LineEnd) (job : Job) (words : List Text) (input old new : Option (List ℕ))
+    → line ≡ Asks job
     → ((rest : Option (List ℕ)) × (printed : Option (List ℕ))
     × RunsLine words input rest old printed (status_in line) × Keeps printed new)
     → AsksByWords words line → RunsWords words input old new None × AsksInWords words job
-words_ran (Ended status) asked job words input old new is some ran asks = absurd cc
-words_ran (Asks None) asked job words input old new is some ran asks = absurd cc
-words_ran (Asks (Some found)) asked job words input old new is some ran asks =
+words_ran (Ended status) job words input old new is ran asks = absurd cc
+words_ran (Asks found) job words input old new is ran asks =
     let same : found ≡ job = cc in
     (ran, subst (AsksInWords words) same asks)
 
 pub returns-in-Ok-Ok-clause-ended : goal.returns-in-Ok-Ok-clause-ended
 returns-in-Ok-Ok-clause-ended g c =
-    let (ran, asks) = words_ran c.in-Ok.ran.0 c.in-Asks-Some.field-0 c.in-Asks-Some.job _ _ _ _
-    c.in-Asks-Some.is c.in-Asks-Some.field-0-is c.in-Ok.ensures.line c.in-Ok.ensures.asks in
+    let (ran, asks) = words_ran c.in-Ok.ran.0 c.in-Asks.job _ _ _ _
+    c.in-Asks.is c.in-Ok.ensures.line c.in-Ok.ensures.asks in
     let unwritten : writer_contents g.O.Write.contents c.in-Ok-new.output ≡ g.O.Write.contents
     c.in-Ok.ran.1 =
     new_writer g.O.Write.contents c.in-Ok-new.output c.in-Ok.ran.1 c.in-Ok-new.ensures.inner
@@ -34,7 +33,7 @@ returns-in-Ok-Ok-clause-ended g c =
       g.O.Write.contents c.in-Ok.ran.1,
       ran,
       (
-        c.in-Asks-Some.job,
+        c.in-Asks.job,
         c.run_job-done.result.done,
         writer_contents g.O.Write.contents c.run_job-done.new.out,
         asks,

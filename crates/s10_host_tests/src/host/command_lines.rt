@@ -440,7 +440,6 @@ fn replay_names_the_first_refused_line(rt: HostRuntime) {
 const NO_COMMAND_LINES: &[Case] = &[
     ("s10", 2, ""),
     ("s10 nothing", 2, ""),
-    ("s10 check", 2, ""),
     ("s10 check RA473124829US RA473124829US", 2, ""),
     ("s10 check --strict RA473124829US", 2, ""),
     ("s10 make RA 00000000", 2, ""),

@@ -2,7 +2,7 @@
 
 use crate::host::command_lines::{prints, status_of};
 use crate::host::job_words::Subcommand::{
-    Audit, Create, Draw, Grant, Loop, Query, Report, Serve, Void, Withdraw,
+    Again, Audit, Create, Draw, Grant, Loop, Notes, Query, Report, Serve, Void, Withdraw,
 };
 use s10_cli::{LineEnd, run_line};
 use s10_jobs::Job;
@@ -22,8 +22,8 @@ const LINES: &[Line] = &[
         r#"Some(Create { ledger: "a.db", settings: Settings { interval: 30, limit: 100 } })"#,
     ),
     (
-        "s10 serve --ledger a.db --bind 0.0.0.0:0 --count 3",
-        r#"Some(Serve { ledger: "a.db", bind: "0.0.0.0:0", count: 3, day: None })"#,
+        "s10 serve --ledger a.db --bind 0.0.0.0:0",
+        r#"Some(Serve { ledger: "a.db", bind: "0.0.0.0:0", count: 4294967295, day: None, until: None })"#,
     ),
     (
         "s10 grant --to 127.0.0.1:4711 --number 1 --holder 7 --service RA --country GB --first 0 --last 2",
@@ -46,8 +46,16 @@ const LINES: &[Line] = &[
         r#"Some(Ask(Question { to: "127.0.0.1:4711", customer: 0, number: 5, body: Withdraw { range: 1 }, tries: Tries { count: 5 } }))"#,
     ),
     (
+        "s10 notes --file a.notes --customer 7 --first 1 --last 999999",
+        r#"Some(Notes { file: "a.notes", customer: 7, first: 1, last: 999999 })"#,
+    ),
+    (
+        "s10 again --to 127.0.0.1:4711 --notes a.notes",
+        r#"Some(Again { to: "127.0.0.1:4711", notes: "a.notes", tries: Tries { count: 5 } })"#,
+    ),
+    (
         "s10 report --ledger a.db",
-        r#"Some(Report { ledger: "a.db", is_of_issues: false, day: None })"#,
+        r#"Some(Report { ledger: "a.db", kind: Ranges, day: None })"#,
     ),
     (
         "s10 audit --ledger a.db",
@@ -71,6 +79,8 @@ enum Subcommand {
     Void,
     Query,
     Withdraw,
+    Notes,
+    Again,
     Report,
     Audit,
     Loop,
@@ -94,7 +104,7 @@ pub(crate) fn job_of<'a, R: Eprint + AllocGlobal>(rt: &R, words: &'a [&str]) -> 
     let mut input: &[u8] = b"";
     let mut output = Vec::new(rt.alloc());
     match run_line(rt, words, &mut input, &mut output) {
-        LineEnd::Asks(job) => job,
+        LineEnd::Asks(job) => Some(job),
         LineEnd::Ended(_) => None,
     }
 }
@@ -135,11 +145,31 @@ const OPTIONS: &[Line] = &[
     ),
     (
         "s10 serve --day 4294967295 --count=4294967295 --bind '' --ledger ''",
-        r#"Some(Serve { ledger: "", bind: "", count: 4294967295, day: Some(4294967295) })"#,
+        r#"Some(Serve { ledger: "", bind: "", count: 4294967295, day: Some(4294967295), until: None })"#,
+    ),
+    (
+        "s10 draw --notes a.notes --to 127.0.0.1:4711 --service RA --country GB --tries 2",
+        r#"Some(AskByNotes(NotedQuestion { to: "127.0.0.1:4711", notes: "a.notes", body: Draw { service: "RA", country: "GB" }, tries: Tries { count: 2 } }))"#,
+    ),
+    (
+        "s10 grant --notes post.notes --to 127.0.0.1:4711 --holder 7 --service RA --country GB --first 0 --last 2",
+        r#"Some(AskByNotes(NotedQuestion { to: "127.0.0.1:4711", notes: "post.notes", body: Grant { holder: 7, service: "RA", country: "GB", first: Serial { value: 0 }, last: Serial { value: 2 } }, tries: Tries { count: 5 } }))"#,
+    ),
+    (
+        "s10 serve --until end --count 3 --bind 0.0.0.0:0 --ledger a.db",
+        r#"Some(Serve { ledger: "a.db", bind: "0.0.0.0:0", count: 3, day: None, until: Some("end") })"#,
     ),
     (
         "s10 report --day 0 --issues --ledger 'a b.db'",
-        r#"Some(Report { ledger: "a b.db", is_of_issues: true, day: Some(0) })"#,
+        r#"Some(Report { ledger: "a b.db", kind: Issues, day: Some(0) })"#,
+    ),
+    (
+        "s10 info --ledger a.db",
+        r#"Some(Report { ledger: "a.db", kind: Info, day: None })"#,
+    ),
+    (
+        "s10 info --day 20030 --ledger a.db",
+        r#"Some(Report { ledger: "a.db", kind: Info, day: Some(20030) })"#,
     ),
     ("s10 loop --day 20000", "Some(Loop { day: Some(20000) })"),
     ("s10 check RA473124829US", "None"),
@@ -206,7 +236,7 @@ fn options_are_required<R: Eprint + AllocGlobal + Abort>(rt: &R, words: &[&str])
 }
 
 #[test]
-fn each_option_but_the_day_and_the_tries_is_required(rt: HostRuntime) {
+fn each_option_without_a_default_is_required(rt: HostRuntime) {
     for (line, _) in lines() {
         options_are_required(&rt, Words::of(line).as_slice());
     }
@@ -304,7 +334,6 @@ const VALUES: &[Reach] = &[
         r#"bind: "0.0.0.0:0""#,
         r#"bind: "[::1]:9""#,
     ),
-    (Serve, "--count", "8", "count: 3", "count: 8"),
     (
         Grant,
         "--to",
@@ -395,6 +424,30 @@ const VALUES: &[Reach] = &[
     (Withdraw, "--number", "8", "number: 5", "number: 8"),
     (Withdraw, "--range", "8", "range: 1", "range: 8"),
     (
+        Notes,
+        "--file",
+        "b.notes",
+        r#"file: "a.notes""#,
+        r#"file: "b.notes""#,
+    ),
+    (Notes, "--customer", "8", "customer: 7", "customer: 8"),
+    (Notes, "--first", "8", "first: 1", "first: 8"),
+    (Notes, "--last", "8", "last: 999999", "last: 8"),
+    (
+        Again,
+        "--to",
+        "[::1]:9",
+        r#"to: "127.0.0.1:4711""#,
+        r#"to: "[::1]:9""#,
+    ),
+    (
+        Again,
+        "--notes",
+        "b.notes",
+        r#"notes: "a.notes""#,
+        r#"notes: "b.notes""#,
+    ),
+    (
         Report,
         "--ledger",
         "b.db",
@@ -417,6 +470,20 @@ fn each_required_option_reaches_its_own_field(rt: HostRuntime) {
 
 const MORE: &[Reach] = &[
     (Serve, ONE_MORE, "--day=9", "day: None", "day: Some(9)"),
+    (
+        Serve,
+        ONE_MORE,
+        "--count=8",
+        "count: 4294967295",
+        "count: 8",
+    ),
+    (
+        Serve,
+        ONE_MORE,
+        "--until=end",
+        "until: None",
+        r#"until: Some("end")"#,
+    ),
     (
         Grant,
         ONE_MORE,
@@ -459,14 +526,15 @@ const MORE: &[Reach] = &[
         "Tries { count: 5 }",
         "Tries { count: 9 }",
     ),
-    (Report, ONE_MORE, "--day=9", "day: None", "day: Some(9)"),
     (
-        Report,
+        Again,
         ONE_MORE,
-        "--issues",
-        "is_of_issues: false",
-        "is_of_issues: true",
+        "--tries=9",
+        "Tries { count: 5 }",
+        "Tries { count: 9 }",
     ),
+    (Report, ONE_MORE, "--day=9", "day: None", "day: Some(9)"),
+    (Report, ONE_MORE, "--issues", "kind: Ranges", "kind: Issues"),
     (Loop, ONE_MORE, "--day=9", "day: None", "day: Some(9)"),
 ];
 
@@ -507,9 +575,9 @@ const WRONG_VALUES: &[Edit] = &[
     (Create, "--limit", "0"),
     (Create, "--limit", "1000000001"),
     (Create, "--limit", "4294967297"),
-    (Serve, "--count", "4294967296"),
-    (Serve, "--count", "-1"),
-    (Serve, "--count", "1.5"),
+    (Notes, "--customer", "4294967296"),
+    (Notes, "--first", "-1"),
+    (Notes, "--last", "4294967296"),
     (Grant, "--first", "100000000"),
     (Grant, "--first", "-1"),
     (Grant, "--last", "100000000"),
@@ -546,6 +614,11 @@ const WRONG_OPTIONS: &[Edit] = &[
     (Query, ONE_MORE, "--tries=101"),
     (Withdraw, ONE_MORE, "--tries=0"),
     (Withdraw, ONE_MORE, "--tries=101"),
+    (Again, ONE_MORE, "--tries=0"),
+    (Again, ONE_MORE, "--tries=101"),
+    (Serve, ONE_MORE, "--count=4294967296"),
+    (Serve, ONE_MORE, "--count=-1"),
+    (Serve, ONE_MORE, "--count=1.5"),
     (Serve, ONE_MORE, "--day=4294967296"),
     (Report, ONE_MORE, "--day=4294967296"),
     (Loop, ONE_MORE, "--day=4294967296"),
@@ -614,5 +687,25 @@ fn help_names_the_options(rt: HostRuntime) {
     for (line, _) in lines() {
         let words = Words::of(line);
         assert!(rt; holds(&rt, line, is_explained(&rt, words.as_slice())));
+    }
+}
+
+/// Requests that have no number, or notes beside a number or a customer.
+const NO_NUMBERS: &[&str] = &[
+    "s10 draw --to 127.0.0.1:4711 --service RA --country GB",
+    "s10 draw --to 127.0.0.1:4711 --customer 7 --service RA --country GB",
+    "s10 draw --to 127.0.0.1:4711 --number 1 --service RA --country GB",
+    "s10 draw --to 127.0.0.1:4711 --notes a.notes --number 1 --service RA --country GB",
+    "s10 void --to 127.0.0.1:4711 --notes a.notes --customer 7 --id RA000000005GB",
+    "s10 query --to 127.0.0.1:4711 --notes a.notes --customer 7 --number 1 --id RA000000005GB",
+    "s10 withdraw --to 127.0.0.1:4711 --notes a.notes --number 1 --range 1",
+    "s10 withdraw --to 127.0.0.1:4711 --range 1",
+];
+
+#[test]
+fn a_request_has_either_a_number_or_notes(rt: HostRuntime) {
+    for line in NO_NUMBERS {
+        let words = Words::of(line);
+        assert!(rt; holds(&rt, line, is_silent(&rt, words.as_slice(), Some(2))));
     }
 }

@@ -6,7 +6,7 @@ use s10_ends::{Answer, Delivery, Server};
 use s10_history::Settings;
 use s10_host::run_audit;
 use s10_jobs::{JobStatus, write_answer};
-use s10_ledger::NoObserver;
+use s10_ledger::{HashSeed, NoObserver};
 use s10_lines::WriteFault;
 use s10_link::Packet;
 use s10_reports::{write_issues, write_ranges};
@@ -175,7 +175,13 @@ fn audited<R: Abort + AllocGlobal, S: Alter + Drop, W: Write>(
 ) -> Option<Result<JobStatus, WriteFault>> {
     let connection = ledger?;
     assert!(rt; connection.is_autocommit());
-    let (done, _left) = run_audit(rt.alloc(), connection, &mut NoObserver, out);
+    let (done, _left) = run_audit(
+        rt.alloc(),
+        HashSeed::fixed(),
+        connection,
+        &mut NoObserver,
+        out,
+    );
     Some(done)
 }
 

@@ -1,114 +1,129 @@
-//! Questions with texts that are refused, and questions over sockets.
+//! Questions with texts that are refused, questions over sockets, and questions by notes.
 
-use s10_host::run_job;
-use s10_jobs::{BodyWords, ClockDays, Job, JobStatus, Question, Tries};
+use crate::host::job_words::job_of;
+use s10_host::{HashSeed, run_job};
+use s10_jobs::{ClockDays, Job, JobStatus};
 use s10_lines::WriteFault;
 use s10_test_help::expect::holds;
 use s10_test_help::refusing::Refusing;
+use s10_test_help::words::Words;
 use sqlite::Unknown;
 use std::io::Write;
 
-/// What customer 7 or the post asks.
-#[derive(Clone, Copy)]
-enum Asked {
-    /// The texts of the service and of the country.
-    Draw(&'static str, &'static str),
-    /// The text of the identifier.
-    Query(&'static str),
-    Withdraw,
-}
+/// A question as a command line, and its status and line.
+type Case = (&'static str, JobStatus, &'static str);
 
-const SERVER: &str = "127.0.0.1:4711";
-
-/// Address of the server, what is asked, and the status and the line of the question.
-const CASES: &[(&str, Asked, JobStatus, &str)] = &[
+/// Questions by a number.
+const CASES: &[Case] = &[
     (
-        "127.0.0.1",
-        Asked::Draw("ra", "gb"),
+        "s10 draw --to 127.0.0.1 --customer 7 --number 1 --service ra --country gb --tries 1",
         JobStatus::Refused,
         "refused peer\n",
     ),
     (
-        "127.0.0.1:04711",
-        Asked::Draw("RA", "GB"),
+        "s10 draw --to 127.0.0.1:04711 --customer 7 --number 1 --service RA --country GB --tries 1",
         JobStatus::Refused,
         "refused peer\n",
     ),
     (
-        SERVER,
-        Asked::Draw("ra", "gb"),
+        "s10 draw --to 127.0.0.1:4711 --customer 7 --number 1 --service ra --country gb --tries 1",
         JobStatus::Refused,
         "refused service\n",
     ),
     (
-        SERVER,
-        Asked::Draw("RAA", "GB"),
+        "s10 draw --to 127.0.0.1:4711 --customer 7 --number 1 --service RAA --country GB --tries 1",
         JobStatus::Refused,
         "refused service\n",
     ),
     (
-        SERVER,
-        Asked::Draw("RA", "G8"),
+        "s10 draw --to 127.0.0.1:4711 --customer 7 --number 1 --service RA --country G8 --tries 1",
         JobStatus::Refused,
         "refused country\n",
     ),
     (
-        "post:4711",
-        Asked::Query("RA"),
+        "s10 query --to post:4711 --customer 7 --number 1 --id RA --tries 1",
         JobStatus::Refused,
         "refused peer\n",
     ),
     (
-        SERVER,
-        Asked::Query("RA"),
+        "s10 query --to 127.0.0.1:4711 --customer 7 --number 1 --id RA --tries 1",
         JobStatus::Refused,
         "refused length\n",
     ),
     (
-        SERVER,
-        Asked::Query("ra 473 124 82x us"),
+        "s10 query --to 127.0.0.1:4711 --customer 7 --number 1 --id 'ra 473 124 82x us' --tries 1",
         JobStatus::Refused,
         "refused digit 10\n",
     ),
     (
-        SERVER,
-        Asked::Query("RA 000 000 006 GB"),
+        "s10 query --to 127.0.0.1:4711 --customer 7 --number 1 --id 'RA 000 000 006 GB' --tries 1",
         JobStatus::Refused,
         "refused check-digit\n",
     ),
     (
-        "127.0.0.1",
-        Asked::Withdraw,
+        "s10 withdraw --to 127.0.0.1 --number 1 --range 1 --tries 1",
         JobStatus::Refused,
         "refused peer\n",
     ),
     // No datagram can be sent to port 0.
     (
-        "127.0.0.1:0",
-        Asked::Query("ra 000 000 005 gb"),
+        "s10 query --to 127.0.0.1:0 --customer 7 --number 1 --id 'ra 000 000 005 gb' --tries 1",
         JobStatus::Failed,
         "link send\n",
     ),
     (
-        "127.0.0.1:0",
-        Asked::Withdraw,
+        "s10 withdraw --to 127.0.0.1:0 --number 1 --range 1 --tries 1",
         JobStatus::Failed,
         "link send\n",
     ),
 ];
 
-/// Asks a question and returns its result.
+/// Questions by notes that are missing, and notes without a number.
+const BY_NOTES: &[Case] = &[
+    (
+        "s10 again --to 127.0.0.1 --notes missing.notes --tries 1",
+        JobStatus::Refused,
+        "refused peer\n",
+    ),
+    (
+        "s10 again --to 127.0.0.1:4711 --notes missing.notes --tries 1",
+        JobStatus::Failed,
+        "notes missing\n",
+    ),
+    (
+        "s10 draw --to 127.0.0.1 --notes missing.notes --service ra --country GB --tries 1",
+        JobStatus::Refused,
+        "refused peer\n",
+    ),
+    (
+        "s10 draw --to 127.0.0.1:4711 --notes missing.notes --service ra --country GB --tries 1",
+        JobStatus::Refused,
+        "refused service\n",
+    ),
+    (
+        "s10 draw --to 127.0.0.1:4711 --notes missing.notes --service RA --country GB --tries 1",
+        JobStatus::Failed,
+        "notes missing\n",
+    ),
+    (
+        "s10 notes --file refused.notes --customer 7 --first 2 --last 1",
+        JobStatus::Refused,
+        "refused numbers\n",
+    ),
+];
+
+/// Runs a job and returns its result.
 fn answer_of<W: Write>(
     rt: &HostRuntime,
     job: &Job<'_>,
     out: &mut W,
 ) -> Result<JobStatus, WriteFault> {
     let mut days = ClockDays { clock: rt };
-    run_job(rt, job, Unknown, &mut days, out).done
+    run_job(rt, job, Ok(HashSeed::fixed()), Unknown, &mut days, out).done
 }
 
-/// Returns whether a question ends with this status and prints this line, and fails if the writer
-/// accepts nothing.
+/// Returns whether a job ends with this status and prints this line, and fails if the writer accepts
+/// nothing.
 fn is_reported(rt: &HostRuntime, job: &Job<'_>, status: JobStatus, line: &str) -> bool {
     let mut out = Vec::new(rt.alloc());
     answer_of(rt, job, &mut out) == Ok(status)
@@ -116,32 +131,25 @@ fn is_reported(rt: &HostRuntime, job: &Job<'_>, status: JobStatus, line: &str) -
         && answer_of(rt, job, &mut Refusing) == Err(WriteFault)
 }
 
-/// Returns the same for the question with number 1 of customer 7 or of the post.
-fn asked_is_reported(
-    rt: &HostRuntime,
-    to: &str,
-    asked: Asked,
-    status: JobStatus,
-    line: &str,
-) -> bool {
-    let (customer, body) = match asked {
-        Asked::Draw(service, country) => (7, BodyWords::Draw { service, country }),
-        Asked::Query(id) => (7, BodyWords::Query { id }),
-        Asked::Withdraw => (0, BodyWords::Withdraw { range: 1 }),
-    };
-    let job = Job::Ask(Question {
-        to,
-        customer,
-        number: 1,
-        body,
-        tries: Tries::new(1).unwrap(),
-    });
-    is_reported(rt, &job, status, line)
+/// Returns the same for the job that a command line asks for.
+fn asked_is_reported(rt: &HostRuntime, asked: &str, status: JobStatus, line: &str) -> bool {
+    let words = Words::of(asked);
+    match job_of(rt, words.as_slice()) {
+        Some(job) => is_reported(rt, &job, status, line),
+        None => false,
+    }
 }
 
 #[test]
 fn a_question_that_is_not_sent_has_its_line(rt: HostRuntime) {
-    for (at, (to, asked, status, line)) in CASES.iter().enumerate() {
-        assert!(rt; holds(&rt, &at, asked_is_reported(&rt, to, *asked, *status, line)));
+    for (asked, status, line) in CASES {
+        assert!(rt; holds(&rt, asked, asked_is_reported(&rt, asked, *status, line)));
+    }
+}
+
+#[test]
+fn a_question_by_notes_that_is_not_sent_has_its_line(rt: HostRuntime) {
+    for (asked, status, line) in BY_NOTES {
+        assert!(rt; holds(&rt, asked, asked_is_reported(&rt, asked, *status, line)));
     }
 }

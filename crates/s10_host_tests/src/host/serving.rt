@@ -2,7 +2,7 @@
 
 use s10_book::PlainBook;
 use s10_history::Settings;
-use s10_jobs::{ClockDays, JobStatus, serve_at};
+use s10_jobs::{AtCount, ClockDays, JobStatus, serve_at};
 use s10_lines::WriteFault;
 use s10_link::{Peer, UdpLink};
 use std::io::Write;
@@ -24,7 +24,18 @@ fn served_at<R: Net + Clock + Eprint + AllocGlobal, W: Write>(
     let book = PlainBook::new(rt.alloc(), Settings::new(30, 2).unwrap());
     let mut days = ClockDays { clock: rt };
     let day = Some(20_000);
-    let (served, _link, _book) = serve_at(rt, rt.alloc(), at, book, &mut days, count, day, out);
+    let mut ends = AtCount;
+    let (served, _link, _book) = serve_at(
+        rt,
+        rt.alloc(),
+        at,
+        book,
+        &mut days,
+        &mut ends,
+        count,
+        day,
+        out,
+    );
     served
 }
 

@@ -1,7 +1,7 @@
 //! Settings and ledgers for several of these tests.
 
 use s10_history::Settings;
-use s10_ledger::{ClosedBook, SqlBook};
+use s10_ledger::{ClosedBook, HashSeed, SqlBook};
 use sqlite::{Alter, Connection, MemStore};
 use std::process::Abort;
 
@@ -35,7 +35,7 @@ pub(crate) fn whole(len: u32, day: u32) -> LedgerSummary {
 
 /// Returns a new ledger in memory, and aborts if there is a fault.
 pub(crate) fn ledger<R: Abort + AllocGlobal>(rt: &R, settings: Settings) -> SqlBook<MemStore> {
-    match SqlBook::in_memory(rt.alloc(), settings) {
+    match SqlBook::in_memory(rt.alloc(), HashSeed::fixed(), settings) {
         Ok(book) => book,
         Err(fault) => panic!(rt; "{fault}"),
     }

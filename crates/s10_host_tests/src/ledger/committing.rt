@@ -5,7 +5,7 @@ use crate::ledger::calls::{closed, ledger, settings};
 use crate::ledger::tables::found;
 use s10_book::{Batched, Book, BookFault, GroupCommit};
 use s10_history::Settings;
-use s10_ledger::{NoObserver, Refused, SqlBook};
+use s10_ledger::{HashSeed, NoObserver, Refused, SqlBook};
 use s10_test_help::answered::Answered;
 use s10_test_help::asked::Asked;
 use s10_test_help::expect::same;
@@ -241,7 +241,7 @@ pub(crate) fn commits_three_in<S: Alter>(
     if !conn.is_autocommit() {
         return (None, conn);
     }
-    match SqlBook::create(alloc, conn, settings, &mut NoObserver) {
+    match SqlBook::create(alloc, HashSeed::fixed(), conn, settings, &mut NoObserver) {
         Ok(book) => {
             let mut book = Batched::new(book);
             let report = commits_three(&mut book);
@@ -266,7 +266,7 @@ pub(crate) fn keeps_five_in<S: Alter>(
     if !conn.is_autocommit() {
         return (None, conn);
     }
-    match SqlBook::create(alloc, conn, settings, &mut NoObserver) {
+    match SqlBook::create(alloc, HashSeed::fixed(), conn, settings, &mut NoObserver) {
         Ok(mut book) => {
             let kept = kept_of_five(&mut book);
             (Some(kept), closed(book))

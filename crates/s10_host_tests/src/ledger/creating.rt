@@ -4,7 +4,7 @@ use crate::ledger::books::{Read, first_wrong_step_of, found_in};
 use crate::ledger::calls::{closed, ledger, settings};
 use crate::ledger::rows::{Shown, first_unshown};
 use s10_history::Settings;
-use s10_ledger::{NoObserver, OpenFault, Refused, SqlBook};
+use s10_ledger::{HashSeed, NoObserver, OpenFault, Refused, SqlBook};
 use s10_test_help::expect::same;
 use s10_test_help::steps::NINE_CALLS;
 use sqlite::{Connection, MemStore};
@@ -63,7 +63,13 @@ fn refusal<R: Abort + AllocGlobal>(
     if !conn.is_autocommit() {
         panic!(rt; "in a transaction")
     }
-    match SqlBook::create(rt.alloc(), conn, settings, &mut NoObserver) {
+    match SqlBook::create(
+        rt.alloc(),
+        HashSeed::fixed(),
+        conn,
+        settings,
+        &mut NoObserver,
+    ) {
         Ok(_) => panic!(rt; "made"),
         Err(Refused { fault, connection }) => (fault, connection),
     }

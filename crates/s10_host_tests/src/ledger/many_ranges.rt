@@ -5,7 +5,7 @@ ghost use Rattle.std.specs.Prelude.{◌≤◌};
 use crate::ledger::calls::{closed, ledger, settings};
 use s10_book::{Book, PlainBook};
 use s10_history::{HolderKey, SerialSpan};
-use s10_ledger::{NoObserver, SqlBook};
+use s10_ledger::{HashSeed, NoObserver, SqlBook};
 use s10_test_help::asked::Asked;
 use s10_test_help::expect::same;
 use s10_test_help::samples::{gb, ra, serial};
@@ -102,7 +102,7 @@ fn ranges_are_alike<A: Book, B: Book>(one: &mut A, other: &mut B, ranges: u32) -
 fn opened_again<R: Abort + AllocGlobal>(rt: &R, book: SqlBook<MemStore>) -> SqlBook<MemStore> {
     let connection = closed(book);
     assert!(rt; connection.is_autocommit());
-    match SqlBook::open(rt.alloc(), connection, &mut NoObserver) {
+    match SqlBook::open(rt.alloc(), HashSeed::fixed(), connection, &mut NoObserver) {
         Ok(book) => book,
         Err(refused) => panic!(rt; "{}", refused.fault),
     }

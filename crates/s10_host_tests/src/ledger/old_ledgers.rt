@@ -7,7 +7,7 @@ use crate::ledger::rows::{
     CLOSED, COMPLETE, INCOMPLETE, Left, NONE_CLOSED, Shown, left, tables_left,
 };
 use crate::ledger::tables::{OLD_LEDGER, database};
-use s10_ledger::{NoObserver, OpenFault, Refused, SqlBook};
+use s10_ledger::{HashSeed, NoObserver, OpenFault, Refused, SqlBook};
 use s10_test_help::answered::Answered::{Drawn, NoRange, Withdrawn};
 use s10_test_help::asked::Asked::{Draw, Withdraw};
 use s10_test_help::expect::same;
@@ -79,7 +79,7 @@ fn served<R: Abort + Eprint + AllocGlobal>(
     if !conn.is_autocommit() {
         return None;
     }
-    match SqlBook::open(rt.alloc(), conn, &mut NoObserver) {
+    match SqlBook::open(rt.alloc(), HashSeed::fixed(), conn, &mut NoObserver) {
         Ok(mut book) => {
             let unlike = first_wrong_step_in(&mut book, steps);
             let conn = closed(book);

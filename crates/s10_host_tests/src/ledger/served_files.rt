@@ -5,7 +5,7 @@ use crate::ledger::calls::{closed, settings};
 use s10_book::{Batched, Book};
 use s10_ends::{Server, serve_batch};
 use s10_history::Settings;
-use s10_ledger::{ClosedBook, NoObserver, Refused, SqlBook};
+use s10_ledger::{ClosedBook, HashSeed, NoObserver, Refused, SqlBook};
 use s10_link::{Link, Packet, Peer, Receipt, ScriptLink};
 use s10_test_help::expect::same;
 use sqlite::{Alter, Connection, FileStore, Files, Options};
@@ -84,7 +84,7 @@ fn served_in<S: Alter + Drop>(
     if !conn.is_autocommit() {
         return (None, conn.into_store());
     }
-    match SqlBook::create(alloc, conn, settings, &mut NoObserver) {
+    match SqlBook::create(alloc, HashSeed::fixed(), conn, settings, &mut NoObserver) {
         Ok(book) => {
             let (served, conn) = served_in_batches(alloc, book);
             (served, conn.into_store())
@@ -113,7 +113,7 @@ fn calls_in<S: Alter + Drop>(alloc: Global, conn: Connection<S>) -> Option<u32> 
     if !conn.is_autocommit() {
         return None;
     }
-    match SqlBook::open(alloc, conn, &mut NoObserver) {
+    match SqlBook::open(alloc, HashSeed::fixed(), conn, &mut NoObserver) {
         Ok(book) => {
             let calls = book.len();
             let _conn = closed(book);

@@ -8,7 +8,7 @@ use crate::ledger::committing::{
 use crate::ledger::tables::{OLD_LEDGER, run_batches};
 use s10_book::Book;
 use s10_history::Settings;
-use s10_ledger::{NoObserver, OpenFault, Refused, SqlBook};
+use s10_ledger::{HashSeed, NoObserver, OpenFault, Refused, SqlBook};
 use s10_test_help::expect::same;
 use sqlite::{Alter, Connection, FileStore, Files, Options};
 use sqlite_disk::{Crash, Disk, Fuse, Memory};
@@ -102,7 +102,7 @@ fn ledger_in<S: Alter + Drop>(alloc: Global, conn: Connection<S>) -> (Ended, Con
     if !conn.is_autocommit() {
         return (Ended::Unconnected, conn);
     }
-    match SqlBook::open(alloc, conn, &mut NoObserver) {
+    match SqlBook::open(alloc, HashSeed::fixed(), conn, &mut NoObserver) {
         Ok(book) => {
             let calls = book.len();
             let conn = closed(book);

@@ -2,7 +2,7 @@
 
 use crate::ledger::calls::{LedgerSummary, closed};
 use s10_book::Book;
-use s10_ledger::{NoObserver, OpenFault, Refused, SqlBook};
+use s10_ledger::{HashSeed, NoObserver, OpenFault, Refused, SqlBook};
 use s10_test_help::expect::same;
 use sqlite::{Alter, Connection, Error, MemStore};
 use std::alloc::Global;
@@ -143,7 +143,7 @@ pub(crate) fn found<S: Alter + Drop>(
     if !conn.is_autocommit() {
         return None;
     }
-    match SqlBook::open(alloc, conn, &mut NoObserver) {
+    match SqlBook::open(alloc, HashSeed::fixed(), conn, &mut NoObserver) {
         Ok(book) => {
             let opened = LedgerSummary {
                 settings: book.settings(),

@@ -19,6 +19,24 @@ returns-in-Ask g c =
     ended_as _ g.S.Start g.D.Days.gives c.args.job.now _ _ _ _ _ _ _ (files_in left) _ _ _
     (looped_in left) _ c.in-Ask.is refl refl refl refl c.run_question.ensures
 
+pub returns-in-AskByNotes : goal.returns-in-AskByNotes
+returns-in-AskByNotes g c =
+    let left = c.run_by_notes.result.resources in
+    ended_as _ g.S.Start g.D.Days.gives c.args.job.now _ _ _ _ _ _ _ (files_in left) _ _ _
+    (looped_in left) _ c.in-AskByNotes.is refl refl refl refl c.run_by_notes.ensures
+
+pub returns-in-Notes : goal.returns-in-Notes
+returns-in-Notes g c =
+    let left = c.run_notes.result.resources in
+    ended_as _ g.S.Start g.D.Days.gives c.args.job.now _ _ _ _ _ _ _ (files_in left) _
+    (link_in left) _ (looped_in left) _ c.in-Notes.is refl refl refl refl c.run_notes.ensures.made
+
+pub returns-in-Again : goal.returns-in-Again
+returns-in-Again g c =
+    let left = c.run_again.result.resources in
+    ended_as _ g.S.Start g.D.Days.gives c.args.job.now _ _ _ _ _ _ _ (files_in left) _ _ _
+    (looped_in left) _ c.in-Again.is refl refl refl refl c.run_again.ensures
+
 pub returns-in-Report : goal.returns-in-Report
 returns-in-Report g c =
     let left = c.run_report.result.resources in
