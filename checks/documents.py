@@ -559,7 +559,7 @@ def run_alone(steps, handlers):
 def audit_beside_a_table(room):
     """Audits the ledger to which docs/LEDGER.md has added a table of the office's own. Returns the failures."""
     try:
-        compare("an audit beside a table of the office's own", ["ledger ok 9"], room.must("s10 audit --ledger ledger"))
+        compare("an audit beside a table of the office's own", ["ledger ok 10"], room.must("s10 audit --ledger ledger"))
     except Failure as failure:
         return [str(failure)]
     return []

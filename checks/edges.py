@@ -35,10 +35,10 @@ def same(what, expected, came):
         raise Failed(f"{what}: expected {expected!r}, came {came!r}")
 
 
-def run(*words):
-    """Runs the program as `s10`. Returns its status and its two outputs."""
+def run(*words, lines=""):
+    """Runs the program as `s10`, with these lines at standard input. Returns its status and its two outputs."""
     done = subprocess.run(
-        ["s10", *words], executable=PROGRAM, stdin=subprocess.DEVNULL, capture_output=True, text=True, check=False, timeout=PATIENCE
+        ["s10", *words], executable=PROGRAM, input=lines, capture_output=True, text=True, check=False, timeout=PATIENCE
     )
     return done.returncode, done.stdout, done.stderr
 
@@ -138,8 +138,10 @@ WRONG = (
     ["draw"],
     [*DRAW, "--to", "127.0.0.1:9", "--tries", "101"],
     [*DRAW, "--to", "127.0.0.1:9", "--to", "127.0.0.1:9"],
-    ["check"],
     ["check", "RA473124829US", "RA473124829US"],
+    ["make", "RA"],
+    ["make", "RA", "00000000"],
+    ["make", "RA", "00000000", "GB", "GB"],
     ["create", "--ledger", "ledger", "--interval", "x", "--limit", "1"],
     ["serve", "--ledger", "ledger", "--bind", "127.0.0.1:0", "--count", "none"],
     ["help", "bogus"],
@@ -157,6 +159,32 @@ def try_wrong_lines(_):
     same("s10 without words: status and output", (2, ""), (status, out))
     same("s10 without words: its help", run("--help")[1], err)
     print(f"{len(WRONG) + 1} wrong command lines: status 2, and one error")
+
+
+def check_digit(serial):
+    """Returns the check digit of a serial of eight digits."""
+    rest = 11 - sum(weight * int(digit) for weight, digit in zip((8, 6, 4, 2, 3, 5, 9, 7), serial)) % 11
+    return {10: 0, 11: 5}.get(rest, rest)
+
+
+def try_lines(_):
+    """`make`, `check` and `show` without words print one line for each line of standard input, in order."""
+    serials = [f"{it * 9973 % 10 ** 8:08}" for it in range(10_000)]
+    made = [f"RA{it}{check_digit(it)}GB" for it in serials]
+    lines = lambda texts: "".join(f"{it}\n" for it in texts)
+    same("made from parts", (0, lines(made), ""), run("make", lines=lines(f"RA {it} GB" for it in serials)))
+    valid = lines(f"{it} valid registered" for it in made)
+    same("checked", (0, valid, ""), run("check", lines=lines(made)))
+    labels = [f"{it[:2].lower()} {it[2:5]} {it[5:8]} {it[8:11]} {it[11:].lower()}" for it in made]
+    same("checked as labels", (0, valid, ""), run("check", "--label", lines="\r\n".join(labels)))
+    wrong = f"{made[0]}\n{labels[0]}\n{made[1]}\n"
+    told = f"{made[0]} valid registered\nrefused length\n{made[1]} valid registered\n"
+    same("one that is refused", (1, told, ""), run("check", lines=wrong))
+    draws = [f"5331010200000007{it:08x}52414742" for it in range(10_000)]
+    shown = lines(f"request draw customer 7 number {it} RA GB" for it in range(10_000))
+    same("shown", (0, shown, ""), run("show", lines=lines(draws)))
+    same("a line that is too long", (1, f"{made[0]} valid registered\nrefused line 2\n", ""), run("check", lines=f"{made[0]}\n{'0' * 1037}\n{made[1]}\n"))
+    print("lines of standard input: ten thousand, each with its line, in order")
 
 
 def try_help(_):
@@ -196,7 +224,7 @@ def try_statuses(folder):
 
 def main():
     signal.signal(signal.SIGINT, signal.default_int_handler)
-    parts = [try_wrong_lines, try_help, try_statuses]
+    parts = [try_wrong_lines, try_lines, try_help, try_statuses]
     if Path("/proc/net/udp").exists():
         parts += [try_server, try_client]
     else:

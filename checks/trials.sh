@@ -378,6 +378,31 @@ address=127.0.0.1:0
 unanswered 3 'link send' "cannot ask $address: Invalid argument (os error 22)"
 address=$silent
 
+# Notes that are new, taken, missing, without an open request, with one while no server is at the address, and damaged.
+group notes
+notes() { # STATUS LINE CHANGES FILE
+    tries "$1" "$2" '' "$3" notes --file "$4" --customer 7 --first 1 --last 9
+}
+again() { # STATUS LINE CHANGES FILE
+    tries "$1" "$2" '' "$3" again --to "$address" --notes "$4" --tries 1
+}
+notes 0 created '+printer 55' printer
+notes 3 'notes taken' '' printer
+notes 3 'notes store' '' missing/printer
+again 3 'notes missing' '' missing
+again 1 'refused answered' '+printer.lock 0' printer
+again 1 'refused answered' '' printer
+ask_by_notes() { # STATUS LINE CHANGES FILE
+    tries "$1" "$2" '' "$3" draw --to "$address" --notes "$4" --service RA --country GB --tries 1
+}
+ask_by_notes 3 'notes missing' '' missing
+ask_by_notes 3 gave-up '~printer 85' printer
+ask_by_notes 1 'refused unanswered' '' printer
+echo '{"customer": 7, "next": 2, "last": 9, "request": "53310102000000070000000152414742"}' >printer
+again 3 gave-up '' printer
+echo '{}' >printer
+again 3 'notes damaged' '' printer
+
 # The input of `replay` is a folder.
 group inputs
 sink=folder
@@ -388,6 +413,7 @@ sink=kept
 # after a second for each turn in which nothing comes.
 group junk
 create 0 created '' '+ledger 32768,+ledger-wal 41' ledger
+: >../told
 "$s10" serve --ledger ledger --bind 127.0.0.1:0 --count 30 --day 20000 >../turns 2>../told </dev/null &
 server=$!
 await() { # WORDS

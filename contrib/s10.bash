@@ -3,26 +3,29 @@ _s10() {
     local word=${COMP_WORDS[COMP_CWORD]} before=${COMP_WORDS[COMP_CWORD - 1]} options values files one
     COMPREPLY=()
     if ((COMP_CWORD == 1)); then
-        options='check make show replay create serve grant draw void query withdraw report audit loop help'
+        options='check make show replay create serve grant draw void query withdraw notes again report info audit loop help'
         [[ $word != -* ]] || options='--help --version'
         mapfile -t COMPREPLY < <(compgen -W "$options" -- "$word")
         return
     fi
     case ${COMP_WORDS[1]} in
-        help) ((COMP_CWORD == 2)) && mapfile -t COMPREPLY < <(compgen -W 'check make show replay create serve grant draw void query withdraw report audit loop' -- "$word")
+        help) ((COMP_CWORD == 2)) && mapfile -t COMPREPLY < <(compgen -W 'check make show replay create serve grant draw void query withdraw notes again report info audit loop' -- "$word")
             return ;;
         check) options='--label --help' values='' files='' ;;
         make) options='--help' values='' files='' ;;
         show) options='--help' values='' files='' ;;
         replay) options='--interval --limit --help' values='--interval --limit' files='' ;;
         create) options='--ledger --interval --limit --help' values='--interval --limit' files='--ledger' ;;
-        serve) options='--ledger --bind --count --day --help' values='--bind --count --day' files='--ledger' ;;
-        grant) options='--to --number --holder --service --country --first --last --tries --help' values='--to --number --holder --service --country --first --last --tries' files='' ;;
-        draw) options='--to --customer --number --service --country --count --tries --help' values='--to --customer --number --service --country --count --tries' files='' ;;
-        void) options='--to --customer --number --id --tries --help' values='--to --customer --number --id --tries' files='' ;;
-        query) options='--to --customer --number --id --tries --help' values='--to --customer --number --id --tries' files='' ;;
-        withdraw) options='--to --number --range --tries --help' values='--to --number --range --tries' files='' ;;
+        serve) options='--ledger --bind --count --until --day --help' values='--bind --count --day' files='--ledger --until' ;;
+        grant) options='--to --number --notes --holder --service --country --first --last --tries --help' values='--to --number --holder --service --country --first --last --tries' files='--notes' ;;
+        draw) options='--to --customer --number --notes --service --country --count --tries --help' values='--to --customer --number --service --country --count --tries' files='--notes' ;;
+        void) options='--to --customer --number --notes --id --tries --help' values='--to --customer --number --id --tries' files='--notes' ;;
+        query) options='--to --customer --number --notes --id --tries --help' values='--to --customer --number --id --tries' files='--notes' ;;
+        withdraw) options='--to --number --notes --range --tries --help' values='--to --number --range --tries' files='--notes' ;;
+        notes) options='--file --customer --first --last --help' values='--customer --first --last' files='--file' ;;
+        again) options='--to --notes --tries --help' values='--to --tries' files='--notes' ;;
         report) options='--ledger --issues --day --help' values='--day' files='--ledger' ;;
+        info) options='--ledger --day --help' values='--day' files='--ledger' ;;
         audit) options='--ledger --help' values='' files='--ledger' ;;
         loop) options='--day --help' values='--day' files='' ;;
         *) return ;;

@@ -65,7 +65,7 @@ def read_list(lines):
             names, value, text = entries[-1]
             entries[-1] = Entry(names, value, f"{text} {line.strip()}".strip())
             continue
-        found = re.fullmatch(r" {2,6}((?:-\w, )?-?-?[\w<>\[\]-]+)(?: <(\w+)>)?(?: {2,}(\S.*)?)?", line)
+        found = re.fullmatch(r" {2,6}((?:-\w, )?-?-?[\w<>\[\]-]+(?: \[\w+\])*)(?: <(\w+)>)?(?: {2,}(\S.*)?)?", line)
         assert found, line
         entries.append(Entry(tuple(found[1].split(", ")), found[2] or "", (found[3] or "").strip()))
     return entries

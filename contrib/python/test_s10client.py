@@ -459,6 +459,54 @@ class Notes(ServedTest):
             with self.assertRaises(ValueError, msg=wrong):
                 self.open()
 
+    def again(self):
+        """Returns what the program prints as it asks the open request of the notes again."""
+        return s10("again", "--to", "{}:{}".format(*self.server.address), "--notes", self.path)
+
+    def test_the_program_and_a_client_have_the_same_notes(self):
+        make = "notes", "--file", self.path, "--customer", 7, "--first", 11, "--last", 13
+        self.assertEqual(self.again(), "notes missing\n")
+        self.assertEqual(s10(*make), "created\n")
+        self.assertEqual(s10(*make), "notes taken\n")
+        with open(self.path, encoding="ascii") as file:
+            self.assertEqual(file.read(), '{"customer": 7, "next": 11, "last": 13, "request": null}\n')
+        self.assertEqual(self.again(), "refused answered\n")
+        with self.open() as client:
+            self.assertEqual(client.draw("RA", "GB").identifier, "RA000000005GB")
+            self.assertEqual(self.again(), "notes locked\n")
+        reply = "reply draw customer 7 number 11 RA GB done day 20000 RA000000005GB\n"
+        self.assertEqual(self.again(), reply)
+        self.assertEqual(self.again(), "refused answered\n")
+        with self.open() as client:
+            self.assertFalse(client.is_open)
+            self.assertEqual(client.draw("RA", "GB").identifier, "RA000000014GB")
+            client.query("RA000000014GB")
+            with self.assertRaises(NumbersSpent):
+                client.draw("RA", "GB")
+        self.assertEqual(self.again(), "reply query customer 7 number 13 RA000000014GB done issued 20000\n")
+        with self.open() as client:
+            self.assertFalse(client.is_open)
+            with self.assertRaises(NumbersSpent):
+                client.draw("RA", "GB")
+
+    def test_the_program_refuses_what_holds_no_notes(self):
+        make_notes(self.path, 7)
+        with self.open() as client:
+            client.draw("RA", "GB")
+        with open(self.path, encoding="ascii") as file:
+            text = file.read()
+        for wrong in ("", "{}", text[:-9], text + "\n", text.replace(": 2", ": 3"), text.replace(": 7", ": 8"),
+                      text.replace('"5331', '"'), text.replace(", ", ","), text * 100):
+            with open(self.path, "w", encoding="ascii") as file:
+                file.write(wrong)
+            self.assertEqual(self.again(), "notes damaged\n", msg=wrong)
+            with open(self.path, encoding="ascii") as file:
+                self.assertEqual(file.read(), wrong)
+
+    def test_notes_of_the_program_need_a_number(self):
+        self.assertEqual(s10("notes", "--file", self.path, "--customer", 7, "--first", 2, "--last", 1), "refused numbers\n")
+        self.assertFalse(os.path.exists(self.path))
+
 
 class Datagrams(unittest.TestCase):
     """Bytes worked by hand."""
