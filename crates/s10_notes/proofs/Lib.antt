@@ -2,3 +2,4 @@ pub mod Written
 pub mod Numerals
 pub mod Digits
 pub mod Lived
+pub mod Replaced

@@ -1,10 +1,10 @@
 -- No number of a life is sent with two requests.
-use Rattle.std.proofs.Common.{◌≡◌, ℕ, ◌+◌, ◌<◌, List, [], ◌∷◌, Option, Some, None, refl, sym, ap, ◌∙◌}
-use Rattle.std.proofs.Common.{arith, ◌⊎◌, inl, inr, subst}
+use Rattle.std.proofs.Common.{◌≡◌, ◌+◌, ◌<◌, List, [], ◌∷◌, Some, None, sym, ap, ◌∙◌}
+use Rattle.std.proofs.Common.{arith, inl, inr}
 use Rattle.std.proofs.lemmas.Option.{same_Some, none-some}
 use Rattle.s10_wire.specs.declared.body.Body.{Body}
 use Rattle.s10_wire.specs.declared.request.Request.{Request}
-use Rattle.s10_notes.specs.Notes.{NotesState, take_fault, after_take, next_request, without_request}
+use Rattle.s10_notes.specs.Notes.{NotesState, after_take, next_request, without_request}
 use Rattle.s10_notes.specs.Lives.{Life, WasSent, UsesOnce}
 use Rattle.s10_notes.specs.Lives.Life.{begun, taken, sent_open, answered}
 

@@ -2,4 +2,6 @@ pub mod Notes
 pub mod Text
 pub mod Notebook
 pub mod Lives
+pub mod Folder
+pub mod HostFolder
 pub mod NotesFile

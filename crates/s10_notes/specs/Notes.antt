@@ -1,5 +1,5 @@
 -- The notes of a client, and how they change.
-use Rattle.std.specs.Prelude.{◌≡◌, ℕ, ◌+◌, ◌≤◌, ◌^◌, ◌<◌, nat_lt, if◌then◌else◌, is_some, IfSome, Option}
+use Rattle.std.specs.Prelude.{◌≡◌, ℕ, ◌+◌, ◌≤◌, nat_lt, if◌then◌else◌, is_some, IfSome, Option}
 use Rattle.std.specs.Prelude.{Some, None}
 use Rattle.s10_wire.specs.declared.body.Body.{Body}
 use Rattle.s10_wire.specs.declared.request.Request.{Request}

@@ -1,15 +1,26 @@
--- The notes of an open file.
-use Rattle.std.specs.Prelude.{◌≡◌, ◌⊎◌, Option, Some}
+-- The notes in a file.
+use Rattle.std.specs.Prelude.{◌≡◌, ◌⊎◌, ℕ, true, List, ◌∷◌, Result, Ok, Err}
+use Rattle.arrayvec.specs.ArrayVec.{ArrayVec}
+use Rattle.s10_notes.specs.declared.folder_call.FolderCall.TheVariants.{FlushFolder, Read}
+use Rattle.s10_notes.specs.declared.notes_fault.NotesFault.{NotesFault}
+use Rattle.s10_notes.specs.Folder.{FolderCalls, may_hold}
 use Rattle.s10_notes.specs.Notes.{NotesState}
+use Rattle.s10_notes.specs.Text.{SpellsNotes, SpellsOnly}
 
--- The notes that were read or written last, and those of a replacement that failed.
-pub record NotesFileState : Type 0 where
-  pub held : NotesState
-  pub in_doubt : Option NotesState
+-- After these calls, an opening after a stop may find these notes.
+abbrev pub may_spell : FolderCalls → NotesState → Type 0
+may_spell calls notes = (text : List ℕ) × may_hold calls text × SpellsNotes text notes
 
-abbrev pub held_in : NotesFileState → NotesState
-held_in file = file.held
+-- The names were flushed and the notes' file was read, and it spells these notes.
+pub record ReadsNotes (old new : FolderCalls) (notes : NotesState) : Type 0 where
+  pub text : ArrayVec ℕ
+  pub calls : new ≡ (Read text, true) ∷ (FlushFolder, true) ∷ old
+  pub spells : SpellsNotes text.items notes
 
--- An opening may find the notes that are held, or those of the replacement that failed.
-abbrev pub may_find_in : NotesFileState → NotesState → Type 0
-may_find_in file found = (found ≡ file.held) ⊎ (file.in_doubt ≡ Some found)
+-- Whatever stops, the notes' file holds a text of these notes or, if the calls failed, may still hold
+-- what it might before.
+abbrev pub WritesNotes : FolderCalls → FolderCalls → NotesState → Result (Unit {0}) NotesFault
+    → Type 0
+WritesNotes old new notes (Ok _) = (text : List ℕ) → may_hold new text → SpellsOnly text notes
+WritesNotes old new notes (Err fault) = (text : List ℕ) → may_hold new text
+    → may_hold old text ⊎ SpellsOnly text notes

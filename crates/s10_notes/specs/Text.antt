@@ -24,3 +24,8 @@ pub record SpellsNotes (text : List ℕ) (n : NotesState) : Type 0 where
   pub numbered : AreNotes n
   pub request : IfSome n.request IsRequest
   pub spelled : text ≡ notes_text n
+
+-- The text spells these notes, and no others.
+pub record SpellsOnly (text : List ℕ) (n : NotesState) : Type 0 where
+  pub spells : SpellsNotes text n
+  pub only : (m : NotesState) → SpellsNotes text m → m ≡ n

@@ -4,6 +4,9 @@ ghost use Rattle.std.specs.Prelude.{◌≡◌, List, None};
 ghost use Rattle.s10_wire.specs.declared.request.Request.{Request};
 ghost use Rattle.s10_notes.specs.Notes.{NotesState};
 ghost use Rattle.s10_notes.specs.Lives.{Life, UsesOnce};
+ghost use Rattle.s10_notes.specs.Text.{SpellsNotes};
+
+use crate::reading::read_notes;
 
 /// States that no number is sent with two requests, in all processes of a client, whichever notes
 /// each opening finds.
@@ -11,3 +14,10 @@ pub fn numbers_are_used_once()
     ensures { (first n : NotesState) (sent : List Request) → first.request ≡ None
         → Life first n sent → UsesOnce n sent }
 {}
+
+/// Reads a text, which spells no other notes than those that are read.
+pub(crate) fn text_spells_one(text: &[u8])
+    ensures { (n m : NotesState) → SpellsNotes text.now n → SpellsNotes text.now m → n ≡ m }
+{
+    let _read = read_notes(text);
+}

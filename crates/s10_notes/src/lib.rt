@@ -2,8 +2,10 @@
 //! read too.
 #![tactic(auto)]
 
+mod folder;
+mod folder_call;
+mod host_folder;
 mod laws;
-mod memory_notebook;
 mod notebook;
 mod notes;
 mod notes_fault;
@@ -12,12 +14,14 @@ mod reading;
 mod take_fault;
 mod writing;
 
+pub use folder::Folder;
+pub use folder_call::{FolderCall, Text};
+pub use host_folder::HostFolder;
 pub use laws::numbers_are_used_once;
-pub use memory_notebook::MemoryNotebook;
 pub use notebook::Notebook;
 pub use notes::Notes;
 pub use notes_fault::NotesFault;
-pub use notes_file::{NotesFile, create_notes_file};
+pub use notes_file::NotesFile;
 pub use reading::read_notes;
 pub use take_fault::TakeFault;
 pub use writing::write_notes;

@@ -1,8 +1,9 @@
 //! Writes notes as their text.
 
-ghost use Rattle.std.specs.Prelude.{◌++◌, OnOk, codes, decimal};
+ghost use Rattle.std.specs.Prelude.{◌++◌, IfSome, OnOk, codes, decimal};
 ghost use Rattle.std.specs.Io.KnownBytes.{Appends};
-ghost use Rattle.s10_notes.specs.Text.{notes_text, request_text};
+ghost use Rattle.s10_wire.specs.Datagrams.{IsRequest};
+ghost use Rattle.s10_notes.specs.Text.{SpellsNotes, notes_text, request_text};
 
 use crate::notes::Notes;
 use itoa::Buffer;
@@ -16,7 +17,10 @@ use std::io::Write;
 ///
 /// `WriteFault` if the writer fails; part of the text may be written.
 pub fn write_notes<W: Write>(notes: &Notes, out: &mut W) -> Result<(), WriteFault>
-    ensures { OnOk result (Appends (W.contents out.old) (W.contents out.new) (notes_text notes.now)) }
+    ensures written { OnOk result (Appends (W.contents out.old) (W.contents out.new)
+        (notes_text notes.now)) }
+    // The text is read as these notes again.
+    ensures spelled { OnOk result (SpellsNotes (notes_text notes.now) notes.now) }
 {
     write_named(b"{\"customer\": ", notes.customer() as u64, out)?;
     write_named(b", \"next\": ", notes.next(), out)?;
@@ -37,8 +41,9 @@ fn write_named<W: Write>(name: &[u8], number: u64, out: &mut W) -> Result<(), Wr
 }
 
 fn write_open_request<W: Write>(request: &Option<Request>, out: &mut W) -> Result<(), WriteFault>
-    ensures { OnOk result (Appends (W.contents out.old) (W.contents out.new)
+    ensures written { OnOk result (Appends (W.contents out.old) (W.contents out.new)
         (request_text request.now)) }
+    ensures in_range { IfSome request.now IsRequest }
 {
     match request {
         None => write_text(b"null", out),
@@ -47,8 +52,9 @@ fn write_open_request<W: Write>(request: &Option<Request>, out: &mut W) -> Resul
 }
 
 fn write_digits<W: Write>(request: &Request, out: &mut W) -> Result<(), WriteFault>
-    ensures { OnOk result (Appends (W.contents out.old) (W.contents out.new)
+    ensures written { OnOk result (Appends (W.contents out.old) (W.contents out.new)
         (request_text (Some request.now))) }
+    ensures in_range { IsRequest request.now }
 {
     let frame = encode_request(request);
     // A frame has at most 256 bytes, and a byte two digits.

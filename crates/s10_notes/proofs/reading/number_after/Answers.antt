@@ -1,8 +1,7 @@
-use Rattle.std.proofs.Common.{◌≡◌, ◌+◌, ◌<◌, ◌^◌, ◌++◌, ◌∷◌, sym, ap, ◌∙◌, arith, take, drop, length}
+use Rattle.std.proofs.Common.{◌++◌, ◌∷◌, ◌∙◌, arith}
 use Rattle.std.specs.Prelude.{decimal}
 use Rattle.std.proofs.lemmas.Option.{same_Some, none-some}
-use Rattle.std.proofs.lemmas.List.{take-append-drop}
-use Rattle.s10_notes.proofs.Numerals.{cut_after, place_after, within_text, behind}
+use Rattle.s10_notes.proofs.Numerals.{cut_after, place_after, behind}
 use Rattle.s10_notes.proofs.reading.number_after.Goals as goal
 
 pub returns-in_err-at-clause-read : goal.returns-in_err-at-clause-read

@@ -6,8 +6,8 @@ use Rattle.s10_lines.proofs.Writing.{Appends-then}
 use Rattle.s10_notes.proofs.Written.{last_written}
 use Rattle.s10_notes.proofs.writing.write_digits.Goals as goal
 
-pub returns : goal.returns
-returns g c =
+pub returns-clause-written : goal.returns-clause-written
+returns-clause-written g c =
     let digits : List ℕ = encode_lower (datagram 0 c.args.request.now) in
     let is : c.encode_to_slice.new.output ≡ digits = c.in-Ok.ensures.written
     ∙ ap encode_lower (c.bytes-2.ensures.bytes ∙ c.encode_request-frame.ensures.1) in

@@ -11,8 +11,8 @@ regrouped : (k1 x1 k2 x2 k3 x3 k4 r k5 : List ℕ)
     ≡ k1 ++ (x1 ++ (k2 ++ (x2 ++ (k3 ++ (x3 ++ (k4 ++ (r ++ k5)))))))
 regrouped k1 x1 k2 x2 k3 x3 k4 r k5 = simp append_assoc
 
-pub returns : goal.returns
-returns g c =
+pub returns-clause-written : goal.returns-clause-written
+returns-clause-written g c =
     let n = c.args.notes.now in
     let k1 : List ℕ = codes "{\"customer\": " in
     let k2 : List ℕ = codes ", \"next\": " in
@@ -33,5 +33,5 @@ returns g c =
     (rw c.next.ensures.next at c.in_ok-write_named-2.ensures))
     (rw c.last.ensures at c.in_ok-write_named-3.ensures))
     c.in_ok-write_text.ensures)
-    (rw c.request.ensures at c.in_ok-write_open_request.ensures))
+    (rw c.request.ensures at c.in_ok-write_open_request.ensures.written))
     c.write_text-2.ensures)

@@ -1,5 +1,0 @@
-use Rattle.std.proofs.Common.{◌≤◌}
-use Rattle.s10_notes.proofs.notes_file.read_file.Given as goal
-
-abbrev pub invariant-reads : goal.invariant-reads
-invariant-reads l = l.len ≤ 160

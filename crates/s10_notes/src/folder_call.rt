@@ -1,0 +1,25 @@
+//! The calls by which the notes in a folder are read and replaced.
+
+use arrayvec::ArrayVec;
+
+/// The text of notes. No notes are longer: each of three numbers has at most ten digits, and a
+/// datagram 28 bytes.
+pub type Text = ArrayVec<u8, 160>;
+
+/// A call of the system on the notes' file, on the file beside it, or on their folder.
+#[derive(Drop)]
+pub enum FolderCall {
+    /// Creates the file beside, or empties it.
+    Empty,
+    /// Appends the text to the file beside.
+    Append(Text),
+    /// Makes what the file beside holds survive a stop of the machine.
+    Flush,
+    /// Puts the file beside in the place of the notes' file.
+    Rename,
+    /// Makes the names in the folder survive a stop of the machine.
+    FlushFolder,
+    /// Makes what the notes' file holds survive a stop of the machine, and reads it: the text is all
+    /// that it holds.
+    Read(Text),
+}
