@@ -80,15 +80,23 @@ static int read_number(const char *text, const char *key, uint64_t most, uint64_
     return errno == 0 && *number <= most;
 }
 
-/* Reads the notes: the request is pending if there is one, and the next number follows it. */
-static int read_notes(const char *path, struct s10_client *client) {
-    char text[MAX_NOTES];
+/* Reads the text of the notes. An earlier process may have stopped before it synced their file or its
+   name, so both are synced first: what is read stays. */
+static ssize_t read_text(const char *path, char text[MAX_NOTES]) {
+    if (sync_folder(path) != 0) return -1;
     int fd = open(path, O_RDONLY | O_CLOEXEC);
-    if (fd < 0) return S10_SYSTEM;
-    ssize_t len = read(fd, text, sizeof text - 1);
+    if (fd < 0) return -1;
+    ssize_t len = fsync(fd) != 0 ? -1 : read(fd, text, MAX_NOTES - 1);
     int cause = errno;
     close(fd);
     errno = cause;
+    return len;
+}
+
+/* Reads the notes: the request is pending if there is one, and the next number follows it. */
+static int read_notes(const char *path, struct s10_client *client) {
+    char text[MAX_NOTES];
+    ssize_t len = read_text(path, text);
     if (len < 0) return S10_SYSTEM;
     text[len] = '\0';
 

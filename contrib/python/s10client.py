@@ -505,7 +505,10 @@ class _Notes:
             raise
 
     def _read(self):
+        # An earlier process may have stopped before it synced the file or its name. What is read stays.
+        _sync_folder(self._path)
         with open(self._path, encoding="ascii") as file:
+            os.fsync(file.fileno())
             text = file.read()
         try:
             noted = json.loads(text)

@@ -11,6 +11,7 @@ use Rattle.s10_jobs.specs.declared.job_status.JobStatus.{JobStatus}
 use Rattle.s10_host.specs.declared.loop_resources.LoopResources.{LoopResources}
 use Rattle.s10_host.specs.Files.{ClosedFiles}
 use Rattle.s10_host.specs.Jobs.{HasEnded}
+use Rattle.s10_host.specs.NotesJobs.{OpenNotes}
 use Rattle.s10_cli.specs.CommandLine.{RunsLine, exit_status}
 use Rattle.s10_cli.specs.Jobs.{AsksInWords}
 
@@ -26,9 +27,10 @@ module _ (S : RattleType) (first : Ghosts S.Denot) {C : Type 0} (gives : C → O
     -- The job that the words ask for was run, and the exit status is that of its result. The output
     -- was flushed.
     abbrev pub RunsJob : List Text → C → C → Option (List ℕ) → Option (List ℕ) → ℕ
-        → Option (ClosedFiles S first) → Option BoundLink → Option LoopResources → Type 0
-    RunsJob words begun ended old new status files link looped =
+        → Option (ClosedFiles S first) → Option BoundLink → Option LoopResources
+        → Option OpenNotes → Type 0
+    RunsJob words begun ended old new status files link looped notes =
         (job : Job) × (done : Result JobStatus WriteFault) × (printed : Option (List ℕ))
         × AsksInWords words job
-        × HasEnded S first gives job begun ended old printed done files link looped
+        × HasEnded S first gives job begun ended old printed done files link looped notes
         × Keeps printed new × (status ≡ exit_status done)

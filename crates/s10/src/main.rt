@@ -6,7 +6,7 @@ ghost use Rattle.std.specs.Prelude.{MatchOption};
 ghost use Rattle.std.specs.IoError.{error_kind};
 ghost use Rattle.std.specs.declared.io.ErrorKind.TheVariants.{InvalidData};
 ghost use Rattle.s10_jobs.specs.declared.job_status.JobStatus.TheVariants.{CommandLine, Failed};
-ghost use Rattle.s10_host.specs.JobResources.{files_in, link_in, looped_in};
+ghost use Rattle.s10_host.specs.JobResources.{files_in, link_in, looped_in, notes_in};
 ghost use Rattle.s10.specs.Ends.{RunsWords, RunsJob};
 
 use s10_cli::{LineEnd, flush_buffer, run_buffered};
@@ -46,26 +46,26 @@ fn words_of(rt: &HostRuntime) -> io::Result<Vec<String>> {
 
 // How a command line ended.
 #[derive(Drop)]
-struct Ended<S: Start, O> {
+struct Ended<'a, S: Start, O> {
     // The exit status.
     status: u8,
     // The output, flushed.
     output: O,
     // The resources of the job, if the words ask for one.
-    resources: Option<JobResources<ClosedFiles<S>>>,
+    resources: Option<JobResources<'a, ClosedFiles<S>>>,
 }
 
 // Runs a command line over two streams. Returns the exit status, and how it ended unless the output
 // failed or memory is lacking.
-fn run<S: Start, D: Days, W: AsStr, I: Read + Drop, O: Write + Drop>(
-    rt: &HostRuntime,
-    words: &[W],
+fn run<'a, S: Start, D: Days, W: AsStr, I: Read + Drop, O: Write + Drop>(
+    rt: &'a HostRuntime,
+    words: &'a [W],
     input: I,
     output: O,
     seed: io::Result<HashSeed>,
     start: S,
     days: &mut D,
-) -> (u8, Option<Ended<S, O>>)
+) -> (u8, Option<Ended<'a, S, O>>)
     ensures status { IfSome result.1 (λ ended. result.0 ≡ ended.status) }
     ensures ended { IfSome result.1 (λ ended. MatchOption ended.resources
         (RunsWords (map W.text words.now) (I.remaining input) (O.contents output)
@@ -73,7 +73,8 @@ fn run<S: Start, D: Days, W: AsStr, I: Read + Drop, O: Write + Drop>(
         (λ used. (between : Option (List ℕ)) × RunsWords (map W.text words.now) (I.remaining input)
         (O.contents output) between None
         × RunsJob S.row S.Start D.gives (map W.text words.now) days.old days.new between
-        (O.contents ended.output) ended.status (files_in used) (link_in used) (looped_in used))) }
+        (O.contents ended.output) ended.status (files_in used) (link_in used) (looped_in used)
+        (notes_in used))) }
     ensures failed { result.1 ≡ None → result.0 ≡ 3 }
 {
     let (line, output) = match run_buffered(rt, words, input, output) {

@@ -1,8 +1,10 @@
 -- Defines which resources a job returns.
 use Rattle.std.specs.Prelude.{Option, Some, None}
 use Rattle.s10_link.specs.UdpLink.{BoundLink}
+use Rattle.s10_notes.specs.HostFolder.{HostFolderState}
+use Rattle.s10_notes.specs.declared.notes_file.NotesFile.{NotesFile}
 use Rattle.s10_host.specs.declared.job_resources.JobResources.{JobResources}
-use Rattle.s10_host.specs.declared.job_resources.JobResources.TheVariants.{Nothing, Files, Link, Served, Loop}
+use Rattle.s10_host.specs.declared.job_resources.JobResources.TheVariants.{Nothing, Files, Link, Served, Notes, Loop}
 use Rattle.s10_host.specs.declared.loop_resources.LoopResources.{LoopResources}
 
 -- The files of the ledger, closed.
@@ -11,6 +13,7 @@ files_in Nothing = None
 files_in (Files files) = Some files
 files_in (Link link) = None
 files_in (Served files link) = Some files
+files_in (Notes notes link) = None
 files_in (Loop looped) = None
 
 -- The link that the ledger was served over, or that a request was sent over.
@@ -19,7 +22,17 @@ link_in Nothing = None
 link_in (Files files) = None
 link_in (Link link) = Some link
 link_in (Served files link) = Some link
+link_in (Notes notes link) = link
 link_in (Loop looped) = None
+
+-- The file of the notes that were created, or that a request was asked by.
+abbrev pub notes_in : {F : Type 0} → JobResources F → Option (NotesFile HostFolderState)
+notes_in Nothing = None
+notes_in (Files files) = None
+notes_in (Link link) = None
+notes_in (Served files link) = None
+notes_in (Notes notes link) = Some notes
+notes_in (Loop looped) = None
 
 -- The resources of a loop.
 abbrev pub looped_in : {F : Type 0} → JobResources F → Option LoopResources
@@ -27,4 +40,5 @@ looped_in Nothing = None
 looped_in (Files files) = None
 looped_in (Link link) = None
 looped_in (Served files link) = None
+looped_in (Notes notes link) = None
 looped_in (Loop looped) = Some looped

@@ -10,11 +10,11 @@ use std::io::Write;
 
 /// Asks a question over a socket of its own. A text that cannot be read is refused before a socket
 /// is bound.
-pub(crate) fn run_question<F, W: Write>(
+pub(crate) fn run_question<'a, F, W: Write>(
     rt: &HostRuntime,
     question: &Question<'_>,
     out: &mut W,
-) -> JobEnd<F>
+) -> JobEnd<'a, F>
     ensures { HasAsked question.now (W.contents out.old) (W.contents out.new) result.done
         (link_in result.resources) }
 {

@@ -16,14 +16,14 @@ use std::io;
 use std::io::Write;
 
 /// Audits the ledger, and leaves its files as they are.
-pub(crate) fn run_audit_on_file<S: Start, D: Days, W: Write>(
+pub(crate) fn run_audit_on_file<'a, S: Start, D: Days, W: Write>(
     rt: &HostRuntime,
     ledger: &str,
     seed: io::Result<HashSeed>,
     start: S,
     days: &mut D,
     out: &mut W,
-) -> JobEnd<ClosedFiles<S>>
+) -> JobEnd<'a, ClosedFiles<S>>
     ensures { HasAudited S.row S.Start (W.contents out.old) (W.contents out.new) result.done
         (files_in result.resources) }
 {

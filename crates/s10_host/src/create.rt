@@ -20,7 +20,7 @@ use std::io;
 use std::io::Write;
 
 /// Creates a ledger. Prints `created` only after it is closed in its file.
-pub(crate) fn run_create<S: Start, D: Days, W: Write>(
+pub(crate) fn run_create<'a, S: Start, D: Days, W: Write>(
     rt: &HostRuntime,
     ledger: &str,
     settings: Settings,
@@ -28,7 +28,7 @@ pub(crate) fn run_create<S: Start, D: Days, W: Write>(
     start: S,
     days: &mut D,
     out: &mut W,
-) -> JobEnd<ClosedFiles<S>>
+) -> JobEnd<'a, ClosedFiles<S>>
     ensures { HasCreated S.row S.Start settings (W.contents out.old) (W.contents out.new)
         result.done (files_in result.resources) }
 {
@@ -43,7 +43,7 @@ pub(crate) fn run_create<S: Start, D: Days, W: Write>(
 }
 
 // Creates a ledger in a file that exists.
-fn create_in<S: Start, D: Days, W: Write>(
+fn create_in<'a, S: Start, D: Days, W: Write>(
     rt: &HostRuntime,
     file: &LedgerFile<'_>,
     seed: HashSeed,
@@ -51,7 +51,7 @@ fn create_in<S: Start, D: Days, W: Write>(
     start: S,
     days: &mut D,
     out: &mut W,
-) -> JobEnd<ClosedFiles<S>>
+) -> JobEnd<'a, ClosedFiles<S>>
     ensures { HasCreated S.row S.Start settings (W.contents out.old) (W.contents out.new)
         result.done (files_in result.resources) }
 {

@@ -6,9 +6,9 @@ use s10_lines::WriteFault;
 
 /// The end of a job. `F` represents the files of a ledger, closed.
 #[derive(Drop)]
-pub struct JobEnd<F> {
+pub struct JobEnd<'a, F> {
     /// Its status, unless the output failed.
     pub done: Result<JobStatus, WriteFault>,
     /// Its resources.
-    pub resources: JobResources<F>,
+    pub resources: JobResources<'a, F>,
 }

@@ -5,10 +5,11 @@ ghost use Rattle.s10_host.specs.JobResources.{files_in, link_in};
 
 use crate::loop_resources::LoopResources;
 use s10_link::UdpLink;
+use s10_notes::{HostFolder, NotesFile};
 
 /// The resources of a job. `F` represents the files of a ledger, closed.
 #[derive(Drop)]
-pub enum JobResources<F> {
+pub enum JobResources<'a, F> {
     /// None.
     Nothing,
     /// The files of the ledger.
@@ -22,12 +23,19 @@ pub enum JobResources<F> {
         /// The link.
         link: UdpLink,
     },
+    /// The notes that were created, or that a request was asked by.
+    Notes {
+        /// The file of the notes.
+        notes: NotesFile<HostFolder<'a>>,
+        /// The link that the request was sent over.
+        link: Option<UdpLink>,
+    },
     /// The resources of a loop.
     Loop(LoopResources),
 }
 
 /// Returns the files and the link of a job, each if there is one.
-pub(crate) fn resources_of<F>(files: Option<F>, link: Option<UdpLink>) -> JobResources<F>
+pub(crate) fn resources_of<'a, F>(files: Option<F>, link: Option<UdpLink>) -> JobResources<'a, F>
     ensures files { files_in result ≡ files }
     ensures link { link_in result ≡ link }
 {

@@ -1,6 +1,6 @@
 //! Runs the jobs over files, sockets and the clock. `S` represents what the files held.
 
-ghost use Rattle.s10_host.specs.JobResources.{files_in, link_in, looped_in};
+ghost use Rattle.s10_host.specs.JobResources.{files_in, link_in, looped_in, notes_in};
 ghost use Rattle.s10_host.specs.Jobs.{HasEnded};
 
 use crate::ask::run_question;
@@ -25,17 +25,17 @@ use std::io::Write;
 /// # Errors
 ///
 /// `done` is `WriteFault` if the output fails.
-pub fn run_job<S: Start, D: Days, W: Write>(
-    rt: &HostRuntime,
-    job: &Job<'_>,
+pub fn run_job<'a, S: Start, D: Days, W: Write>(
+    rt: &'a HostRuntime,
+    job: &Job<'a>,
     seed: io::Result<HashSeed>,
     start: S,
     days: &mut D,
     out: &mut W,
-) -> JobEnd<ClosedFiles<S>>
+) -> JobEnd<'a, ClosedFiles<S>>
     ensures { HasEnded S.row S.Start D.gives job.now days.old days.new (W.contents out.old)
         (W.contents out.new) result.done (files_in result.resources) (link_in result.resources)
-        (looped_in result.resources) }
+        (looped_in result.resources) (notes_in result.resources) }
 {
     match job {
         Job::Create { ledger, settings } => run_create(

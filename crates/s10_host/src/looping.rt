@@ -36,12 +36,12 @@ const LOCALHOST: Peer = Peer {
 
 /// Runs the loop on the given day or, if none is given, on the next day of the source. Determines the
 /// day before a socket is bound.
-pub(crate) fn run_loop_on<F, D: Days, W: Write>(
+pub(crate) fn run_loop_on<'a, F, D: Days, W: Write>(
     rt: &HostRuntime,
     day: Option<u32>,
     days: &mut D,
     out: &mut W,
-) -> JobEnd<F>
+) -> JobEnd<'a, F>
     ensures { IsRunOn D.gives day days.old days.new (W.contents out.old) (W.contents out.new)
         result.done (looped_in result.resources) }
 {
@@ -58,7 +58,7 @@ pub(crate) fn run_loop_on<F, D: Days, W: Write>(
     }
 }
 
-fn resources_of_loop<F>(looped: Option<LoopResources>) -> JobResources<F>
+fn resources_of_loop<'a, F>(looped: Option<LoopResources>) -> JobResources<'a, F>
     ensures { looped_in result ≡ looped }
 {
     match looped {

@@ -1,8 +1,9 @@
 //! Creates the notes of a client, asks a request by them, and asks their open request again.
 
-ghost use Rattle.std.specs.Prelude.{◌≡◌, None};
-ghost use Rattle.s10_host.specs.JobResources.{files_in, link_in, looped_in};
+ghost use Rattle.std.specs.Prelude.{◌≡◌, None, IfOk};
+ghost use Rattle.s10_host.specs.JobResources.{link_in, notes_in};
 ghost use Rattle.s10_host.specs.NotesJobs.{HasMadeNotes, HasAskedAgain, HasAskedByNotes};
+ghost use Rattle.s10_host.specs.NotesJobs.{IsNewAt, IsOpenedAt};
 
 use crate::job_end::JobEnd;
 use crate::job_resources::JobResources;
@@ -11,42 +12,72 @@ use s10_jobs::{
     fail_by_link, fail_by_notes, refuse, write_made, write_refusal,
 };
 use s10_link::Peer;
-use s10_notes::{Notes, NotesFile, create_notes_file};
+use s10_notes::{HostFolder, Notes, NotesFault, NotesFile};
 use std::io::Write;
 
 /// Creates the notes of a client that has the numbers `first` to `last`.
-pub(crate) fn run_notes<F, W: Write>(
-    rt: &HostRuntime,
-    file: &str,
+pub(crate) fn run_notes<'a, F, W: Write>(
+    rt: &'a HostRuntime,
+    file: &'a str,
     customer: u32,
     first: u32,
     last: u32,
     out: &mut W,
-) -> JobEnd<F>
-    ensures made { HasMadeNotes first last (W.contents out.old) (W.contents out.new) result.done }
-    ensures resources { result.resources ≡ JobResources.Nothing }
+) -> JobEnd<'a, F>
+    ensures made { HasMadeNotes file.now customer first last (W.contents out.old) (W.contents out.new)
+        result.done (notes_in result.resources) }
+    ensures unlinked { link_in result.resources ≡ None }
 {
-    let done = match Notes::new(customer, first, last) {
-        Some(notes) => write_made(create_notes_file(rt, file, &notes), out),
-        None => refuse(b"numbers", out),
+    let Some(notes) = Notes::new(customer, first, last) else {
+        return JobEnd {
+            done: refuse(b"numbers", out),
+            resources: JobResources::Nothing,
+        };
     };
-    JobEnd {
-        done,
-        resources: JobResources::Nothing,
+    match new_notes(rt, file, &notes) {
+        Ok(notes) => JobEnd {
+            done: write_made(Ok(()), out),
+            resources: JobResources::Notes { notes, link: None },
+        },
+        Err(fault) => JobEnd {
+            done: write_made(Err(fault), out),
+            resources: JobResources::Nothing,
+        },
     }
+}
+
+// Writes notes to a new file.
+fn new_notes<'a>(
+    rt: &'a HostRuntime,
+    path: &'a str,
+    notes: &Notes,
+) -> Result<NotesFile<HostFolder<'a>>, NotesFault>
+    ensures { IfOk result (IsNewAt path.now notes.now) }
+{
+    NotesFile::create(HostFolder::create(rt, path)?, notes)
+}
+
+// Opens the notes at the path.
+fn open_notes<'a>(
+    rt: &'a HostRuntime,
+    path: &'a str,
+) -> Result<NotesFile<HostFolder<'a>>, NotesFault>
+    ensures { IfOk result (IsOpenedAt path.now) }
+{
+    NotesFile::open(HostFolder::open(rt, path)?)
 }
 
 /// Asks the open request of notes again, over a socket of its own. An address that cannot be read is
 /// refused before the notes are opened, and these are opened before a socket is bound.
-pub(crate) fn run_again<F, W: Write>(
-    rt: &HostRuntime,
+pub(crate) fn run_again<'a, F, W: Write>(
+    rt: &'a HostRuntime,
     to: &str,
-    path: &str,
+    path: &'a str,
     tries: Tries,
     out: &mut W,
-) -> JobEnd<F>
-    ensures { HasAskedAgain to.now tries (W.contents out.old) (W.contents out.new) result.done
-        (link_in result.resources) }
+) -> JobEnd<'a, F>
+    ensures { HasAskedAgain to.now path.now tries (W.contents out.old) (W.contents out.new) result.done
+        (link_in result.resources) (notes_in result.resources) }
 {
     let Some(to) = Peer::read(to.as_bytes()) else {
         return JobEnd {
@@ -54,7 +85,7 @@ pub(crate) fn run_again<F, W: Write>(
             resources: JobResources::Nothing,
         };
     };
-    let mut notes = match NotesFile::open(rt, path) {
+    let mut notes = match open_notes(rt, path) {
         Ok(notes) => notes,
         Err(fault) => {
             return JobEnd {
@@ -68,27 +99,30 @@ pub(crate) fn run_again<F, W: Write>(
         Err(fault) => {
             return JobEnd {
                 done: fail_by_link(fault, out),
-                resources: JobResources::Nothing,
+                resources: JobResources::Notes { notes, link: None },
             };
         }
     };
-    let asked = ask_again(&mut notes, &mut link, to, tries, out);
+    let done = ask_again(&mut notes, &mut link, to, tries, out);
     eprint_failure(rt, to, &link);
     JobEnd {
-        done: asked,
-        resources: JobResources::Link(link),
+        done,
+        resources: JobResources::Notes {
+            notes,
+            link: Some(link),
+        },
     }
 }
 
 /// Asks a question with the next number of notes, over a socket of its own. A text that cannot be
 /// read is refused before the notes are opened, and these are opened before a socket is bound.
-pub(crate) fn run_by_notes<F, W: Write>(
-    rt: &HostRuntime,
-    question: &NotedQuestion<'_>,
+pub(crate) fn run_by_notes<'a, F, W: Write>(
+    rt: &'a HostRuntime,
+    question: &NotedQuestion<'a>,
     out: &mut W,
-) -> JobEnd<F>
+) -> JobEnd<'a, F>
     ensures { HasAskedByNotes question.now (W.contents out.old) (W.contents out.new) result.done
-        (link_in result.resources) }
+        (link_in result.resources) (notes_in result.resources) }
 {
     let (to, body) = match question.read() {
         Ok(read) => read,
@@ -99,7 +133,7 @@ pub(crate) fn run_by_notes<F, W: Write>(
             };
         }
     };
-    let mut notes = match NotesFile::open(rt, question.notes) {
+    let mut notes = match open_notes(rt, question.notes) {
         Ok(notes) => notes,
         Err(fault) => {
             return JobEnd {
@@ -113,14 +147,17 @@ pub(crate) fn run_by_notes<F, W: Write>(
         Err(fault) => {
             return JobEnd {
                 done: fail_by_link(fault, out),
-                resources: JobResources::Nothing,
+                resources: JobResources::Notes { notes, link: None },
             };
         }
     };
-    let asked = ask_by_notes(&mut notes, &mut link, to, body, question.tries, out);
+    let done = ask_by_notes(&mut notes, &mut link, to, body, question.tries, out);
     eprint_failure(rt, to, &link);
     JobEnd {
-        done: asked,
-        resources: JobResources::Link(link),
+        done,
+        resources: JobResources::Notes {
+            notes,
+            link: Some(link),
+        },
     }
 }

@@ -31,7 +31,7 @@ use std::io::Write;
 ///
 /// If the file was refused, removes the log that opening it created. An audit leaves its files as
 /// they are: their last commits may be in the log alone.
-pub(crate) fn run_on_file<F: Disk + Drop, D: Days, E: Ending, W: Write>(
+pub(crate) fn run_on_file<'a, F: Disk + Drop, D: Days, E: Ending, W: Write>(
     rt: &HostRuntime,
     file: &LedgerFile<'_>,
     seed: HashSeed,
@@ -40,7 +40,7 @@ pub(crate) fn run_on_file<F: Disk + Drop, D: Days, E: Ending, W: Write>(
     days: &mut D,
     ends: &mut E,
     out: &mut W,
-) -> JobEnd<Files<F>>
+) -> JobEnd<'a, Files<F>>
     requires idle { connection.in_transaction ≡ false }
     ensures worked { job ≢ LedgerJob.Audit → EndsOver D.gives job days.old days.new E.says ends.old ends.new
         connection
@@ -90,7 +90,7 @@ pub(crate) fn run_on_file<F: Disk + Drop, D: Days, E: Ending, W: Write>(
 }
 
 /// Reports why a file cannot be created or opened.
-pub(crate) fn not_connected<F, W: Write>(fault: OpenFault, out: &mut W) -> JobEnd<F>
+pub(crate) fn not_connected<'a, F, W: Write>(fault: OpenFault, out: &mut W) -> JobEnd<'a, F>
     ensures done { IfOk result.done (λ status. (status ≡ JobStatus.Failed)
         × Appends (W.contents out.old) (W.contents out.new) (ledger_line fault)) }
     ensures nothing { result.resources ≡ JobResources.Nothing }

@@ -17,7 +17,7 @@ use std::io;
 use std::io::Write;
 
 /// Prints the report. Determines its day before the ledger is opened.
-pub(crate) fn run_report<S: Start, D: Days, W: Write>(
+pub(crate) fn run_report<'a, S: Start, D: Days, W: Write>(
     rt: &HostRuntime,
     ledger: &str,
     kind: ReportKind,
@@ -26,7 +26,7 @@ pub(crate) fn run_report<S: Start, D: Days, W: Write>(
     start: S,
     days: &mut D,
     out: &mut W,
-) -> JobEnd<ClosedFiles<S>>
+) -> JobEnd<'a, ClosedFiles<S>>
     ensures { HasReported S.row S.Start D.gives kind day days.old days.new
         (W.contents out.old) (W.contents out.new) result.done (files_in result.resources) }
 {

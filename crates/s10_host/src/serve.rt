@@ -21,7 +21,7 @@ use std::io::Write;
 
 /// Serves the ledger at the address, unless the address cannot be read or the file that ends the turns
 /// is there already.
-pub(crate) fn run_serve<S: Start, D: Days, W: Write>(
+pub(crate) fn run_serve<'a, S: Start, D: Days, W: Write>(
     rt: &HostRuntime,
     ledger: &str,
     bind: &str,
@@ -32,7 +32,7 @@ pub(crate) fn run_serve<S: Start, D: Days, W: Write>(
     start: S,
     days: &mut D,
     out: &mut W,
-) -> JobEnd<ClosedFiles<S>>
+) -> JobEnd<'a, ClosedFiles<S>>
     ensures { HasServed S.row S.Start D.gives bind.now day days.old days.new count
         (is_some until.entry) (W.contents out.old) (W.contents out.new) result.done (files_in result.resources)
         (link_in result.resources) }

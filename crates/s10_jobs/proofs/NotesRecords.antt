@@ -1,7 +1,6 @@
 -- What asking by notes leaves, by whether the notes could record the reply.
-use Rattle.std.proofs.Common.{◌≡◌, ◌⊎◌, ℕ, List, [], ◌∷◌, ◌++◌, Option, Some, None, Result, Ok, Err, refl}
+use Rattle.std.proofs.Common.{◌≡◌, ℕ, List, [], ◌∷◌, ◌++◌, Option, Some, Result, Ok, Err}
 use Rattle.std.proofs.Common.{sym, ap, ◌∙◌, subst, inl, inr, append-nil}
-use Rattle.std.specs.Prelude.{IfOk, IsErr}
 use Rattle.std.specs.Io.KnownBytes.{Appends}
 use Rattle.s10_wire.specs.declared.request.Request.{Request}
 use Rattle.s10_wire.specs.declared.reply.Reply.{Reply}
@@ -13,7 +12,7 @@ use Rattle.s10_notes.specs.declared.notes_fault.NotesFault.{NotesFault}
 use Rattle.s10_notes.specs.Notes.{NotesState, without_request}
 use Rattle.s10_notes.specs.Notebook.{Replaces}
 use Rattle.s10_notes.specs.Lives.{Life}
-use Rattle.s10_notes.specs.Lives.Life.{taken, sent_open, answered}
+use Rattle.s10_notes.specs.Lives.Life.{sent_open, answered}
 use Rattle.s10_ends.specs.Client.{ClientState, new_client}
 use Rattle.s10_ends.specs.Calls.{Calls}
 use Rattle.s10_ends.specs.declared.calls.CallFault.{CallFault}

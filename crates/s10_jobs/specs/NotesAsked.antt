@@ -14,7 +14,7 @@ use Rattle.s10_notes.specs.declared.notes_fault.NotesFault.TheVariants.{Taken, M
 use Rattle.s10_notes.specs.declared.notes_fault.NotesFault.TheVariants.{Damaged, Store}
 use Rattle.s10_notes.specs.declared.take_fault.TakeFault.{TakeFault}
 use Rattle.s10_notes.specs.declared.take_fault.TakeFault.TheVariants.{Unanswered, NumbersSpent}
-use Rattle.s10_notes.specs.Notes.{NotesState, next_request, after_take, take_fault, without_request}
+use Rattle.s10_notes.specs.Notes.{NotesState, next_request, after_take, without_request}
 use Rattle.s10_notes.specs.Notebook.{Replaces}
 use Rattle.s10_notes.specs.Lives.{Life}
 use Rattle.s10_ends.specs.Client.{ClientState, new_client}

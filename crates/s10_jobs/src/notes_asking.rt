@@ -48,6 +48,7 @@ pub fn ask_by_notes<N: Notebook, L: Link, W: Write>(
         × (L.trace_of link.new ≡ L.trace_of link.old))
         ⊎ IsLived N.may_find first (next_request (N.held notebook.old) body ∷ sent) notebook.new }
     ensures led { LeadsTo L.step link.old link.new }
+    ensures at { N.path notebook.new ≡ N.path notebook.old }
 {
     let taken = match notebook.notes().take(body) {
         Ok(taken) => taken,
@@ -79,6 +80,7 @@ pub fn ask_again<N: Notebook, L: Link, W: Write>(
         → Life first (N.held notebook.old) sent
         → IsLived N.may_find first (q ∷ sent) notebook.new }
     ensures led { LeadsTo L.step link.old link.new }
+    ensures at { N.path notebook.new ≡ N.path notebook.old }
 {
     match notebook.notes().request() {
         Some(request) => ask_request(notebook, &request, link, to, tries, out),
@@ -99,6 +101,7 @@ fn ask_request<N: Notebook, L: Link, W: Write>(
         (L.trace_of link.old) (L.trace_of link.new) to tries (W.contents out.old)
         (W.contents out.new) result }
     ensures led { LeadsTo L.step link.old link.new }
+    ensures at { N.path notebook.new ≡ N.path notebook.old }
 {
     let Ok(mut client) = Client::new(request.customer, request.number, request.number) else {
         unreachable!()
@@ -117,8 +120,9 @@ fn record_reply<N: Notebook, W: Write>(
     status: JobStatus,
     out: &mut W,
 ) -> Result<JobStatus, WriteFault>
-    ensures { RecordsReply N.held N.may_find status [] notebook.old notebook.new (W.contents out.old)
-        (W.contents out.new) result }
+    ensures recorded { RecordsReply N.held N.may_find status [] notebook.old notebook.new
+        (W.contents out.old) (W.contents out.new) result }
+    ensures at { N.path notebook.new ≡ N.path notebook.old }
 {
     let Ok(()) = out.flush() else {
         return Err(WriteFault);

@@ -6,6 +6,7 @@ mod notes;
 mod questions;
 mod replays;
 mod reports;
+mod stopping_folder;
 mod tries;
 mod turn_lines;
 mod turns;

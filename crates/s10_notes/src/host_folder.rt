@@ -98,6 +98,8 @@ impl<'a> HostFolder<'a> {
 }
 
 impl Folder for HostFolder<'_> {
+    ghost path = { λ f. f.path };
+
     ghost calls = { λ f. f.calls };
 
     fn empty_beside(&mut self) -> Result<(), NotesFault> {

@@ -1,6 +1,6 @@
 //! The trait of notebooks.
 
-ghost use Rattle.std.specs.Prelude.{◌≡◌};
+ghost use Rattle.std.specs.Prelude.{◌≡◌, ℕ, List};
 ghost use Rattle.s10_notes.specs.Notes.{NotesState};
 ghost use Rattle.s10_notes.specs.Notebook.{Replaces};
 
@@ -9,6 +9,9 @@ use crate::notes_fault::NotesFault;
 
 /// What keeps the notes of a client, such as a file. It may stop at any moment.
 pub trait Notebook {
+    /// The path at which the notes are kept.
+    ghost path: { Self → List ℕ };
+
     /// The notes that it holds.
     ghost held: { Self → NotesState };
 
@@ -26,5 +29,6 @@ pub trait Notebook {
     /// A fault of the notebook. It still holds the old notes, and an opening finds these or the new
     /// ones.
     fn replace(&mut self, notes: &Notes) -> Result<(), NotesFault>
-        ensures { Replaces held may_find self.old self.new notes.now result };
+        ensures replaced { Replaces held may_find self.old self.new notes.now result }
+        ensures at { path self.new ≡ path self.old };
 }

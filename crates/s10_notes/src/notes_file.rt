@@ -1,5 +1,6 @@
 //! Notes in a file, which is replaced by a rename.
 
+ghost use Rattle.std.specs.Prelude.{◌≡◌};
 ghost use Rattle.s10_notes.specs.NotesFile.{WritesNotes};
 
 use crate::folder::Folder;
@@ -33,7 +34,8 @@ impl<F: Folder + Drop> NotesFile<F> {
     /// - `Damaged` if the file has no notes in it.
     /// - `Store` if a call of the folder failed.
     pub fn open(folder: F) -> Result<NotesFile<F>, NotesFault>
-        ensures { IfOk result (λ file. ReadsNotes (F.calls folder) (F.calls file.folder) file.held) }
+        ensures read { IfOk result (λ file. ReadsNotes (F.calls folder) (F.calls file.folder) file.held) }
+        ensures at { IfOk result (λ file. F.path file.folder ≡ F.path folder) }
     {
         let mut folder = folder;
         folder.flush()?;
@@ -57,6 +59,7 @@ impl<F: Folder + Drop> NotesFile<F> {
         ensures held { IfOk result (λ file. file.held ≡ notes.now) }
         ensures written { IfOk result (λ file. WritesNotes (F.calls folder) (F.calls file.folder)
             notes.now (Ok tt)) }
+        ensures at { IfOk result (λ file. F.path file.folder ≡ F.path folder) }
     {
         let mut folder = folder;
         write_over(&mut folder, notes)?;
@@ -70,6 +73,8 @@ impl<F: Folder + Drop> NotesFile<F> {
 
 impl<F: Folder> Notebook for NotesFile<F> {
     ghost use Rattle.s10_notes.specs.NotesFile.{may_spell};
+
+    ghost path = { λ file. F.path file.folder };
 
     ghost held = { λ file. file.held };
 
@@ -98,7 +103,8 @@ impl<F: Folder> Notebook for NotesFile<F> {
 
 // Writes the notes beside their file, and renames them onto it.
 fn write_over<F: Folder>(folder: &mut F, notes: &Notes) -> Result<(), NotesFault>
-    ensures { WritesNotes (F.calls folder.old) (F.calls folder.new) notes.now result }
+    ensures written { WritesNotes (F.calls folder.old) (F.calls folder.new) notes.now result }
+    ensures at { F.path folder.new ≡ F.path folder.old }
 {
     let mut text = Text::new();
     let Ok(()) = write_notes(notes, &mut text) else {

@@ -1,9 +1,10 @@
-//! Requests that are asked by notes, which may stop at any replacement.
+//! Requests that are asked by notes, over a folder that may stop at any call.
 
+use crate::jobs::stopping_folder::{Stop, StoppingFolder};
 use crate::links::{Meets, link_of};
 use s10_jobs::{JobStatus, Tries, ask_again, ask_by_notes};
 use s10_link::Peer;
-use s10_notes::{MemoryNotebook, read_notes, write_notes};
+use s10_notes::{Notes, NotesFault, NotesFile};
 use s10_test_help::asked::Asked;
 use s10_test_help::datagrams::DRAWN;
 use s10_test_help::expect::{holds, is_text};
@@ -30,77 +31,152 @@ const ANSWERED: &str = "{\"customer\": 7, \"next\": 2, \"last\": 9, \"request\":
 
 const SPENT: &str = "{\"customer\": 7, \"next\": 10, \"last\": 9, \"request\": null}\n";
 
+/// The calls of an opening.
+const OPENING: u32 = 2;
+
 /// A draw by notes, or the open request again.
 #[derive(Clone, Copy, Debug)]
 struct Case {
     is_draw: bool,
     /// The text of the notes.
     notes: &'static str,
-    /// The replacements before the notebook stops.
+    /// The calls of the folder after the opening and before one fails.
     left: u32,
-    /// Whether the replacement at which it stops is kept.
-    keeps_last: bool,
+    /// Whether that call is made all the same.
+    does_last: bool,
     /// Whether the reply arrives.
     is_answered: bool,
     sends: usize,
     status: JobStatus,
     line: &'static str,
-    /// The text of the notes that an opening finds afterwards.
+    /// The text of the notes after a stop of the process, and after one of the machine.
+    shown: &'static str,
     kept: &'static str,
 }
 
 const ASKED: Case = Case {
     is_draw: true,
     notes: NEW,
-    left: 2,
-    keeps_last: false,
+    left: 10,
+    does_last: false,
     is_answered: true,
     sends: 1,
     status: JobStatus::Done,
     line: REPLY,
+    shown: ANSWERED,
     kept: ANSWERED,
 };
 
-const CASES: &[Case] = &[
+/// A stop before the request is sent.
+const UNSENT: Case = Case {
+    sends: 0,
+    status: JobStatus::Failed,
+    line: "notes store\n",
+    shown: NEW,
+    kept: NEW,
+    ..ASKED
+};
+
+/// A stop after the reply was printed.
+const UNRECORDED: Case = Case {
+    status: JobStatus::Failed,
+    line: REPLY_UNRECORDED,
+    shown: OPEN,
+    kept: OPEN,
+    ..ASKED
+};
+
+const STOPS: &[Case] = &[
+    // At the calls that write the request down: the file beside is emptied, written, flushed and
+    // renamed, and the names are flushed. A name that is not flushed is found only if the machine
+    // goes on.
+    Case { left: 0, ..UNSENT },
+    Case {
+        left: 0,
+        does_last: true,
+        ..UNSENT
+    },
+    Case { left: 1, ..UNSENT },
+    Case {
+        left: 1,
+        does_last: true,
+        ..UNSENT
+    },
+    Case { left: 2, ..UNSENT },
+    Case {
+        left: 2,
+        does_last: true,
+        ..UNSENT
+    },
+    Case { left: 3, ..UNSENT },
+    Case {
+        left: 3,
+        does_last: true,
+        shown: OPEN,
+        ..UNSENT
+    },
+    Case {
+        left: 4,
+        shown: OPEN,
+        ..UNSENT
+    },
+    Case {
+        left: 4,
+        does_last: true,
+        shown: OPEN,
+        kept: OPEN,
+        ..UNSENT
+    },
+    // At those that record the reply.
+    Case {
+        left: 5,
+        ..UNRECORDED
+    },
+    Case {
+        left: 5,
+        does_last: true,
+        ..UNRECORDED
+    },
+    Case {
+        left: 6,
+        ..UNRECORDED
+    },
+    Case {
+        left: 7,
+        ..UNRECORDED
+    },
+    Case {
+        left: 8,
+        ..UNRECORDED
+    },
+    Case {
+        left: 8,
+        does_last: true,
+        shown: ANSWERED,
+        ..UNRECORDED
+    },
+    Case {
+        left: 9,
+        shown: ANSWERED,
+        ..UNRECORDED
+    },
+    Case {
+        left: 9,
+        does_last: true,
+        shown: ANSWERED,
+        kept: ANSWERED,
+        ..UNRECORDED
+    },
     ASKED,
-    // A stop while the request is written down: nothing is sent.
-    Case {
-        left: 0,
-        sends: 0,
-        status: JobStatus::Failed,
-        line: "notes store\n",
-        kept: NEW,
-        ..ASKED
-    },
-    Case {
-        left: 0,
-        keeps_last: true,
-        sends: 0,
-        status: JobStatus::Failed,
-        line: "notes store\n",
-        kept: OPEN,
-        ..ASKED
-    },
-    // A stop while the reply is recorded.
-    Case {
-        left: 1,
-        status: JobStatus::Failed,
-        line: REPLY_UNRECORDED,
-        kept: OPEN,
-        ..ASKED
-    },
-    Case {
-        left: 1,
-        keeps_last: true,
-        status: JobStatus::Failed,
-        line: REPLY_UNRECORDED,
-        ..ASKED
-    },
+];
+
+const CASES: &[Case] = &[
     // No reply: the request stays open.
     Case {
         is_answered: false,
         status: JobStatus::Failed,
         line: "gave-up\n",
+        shown: OPEN,
         kept: OPEN,
         ..ASKED
     },
@@ -110,6 +186,7 @@ const CASES: &[Case] = &[
         sends: 0,
         status: JobStatus::Refused,
         line: "refused unanswered\n",
+        shown: OPEN,
         kept: OPEN,
         ..ASKED
     },
@@ -118,6 +195,7 @@ const CASES: &[Case] = &[
         sends: 0,
         status: JobStatus::Refused,
         line: "refused numbers-spent\n",
+        shown: SPENT,
         kept: SPENT,
         ..ASKED
     },
@@ -137,18 +215,18 @@ const CASES: &[Case] = &[
     },
 ];
 
-/// Returns whether the notes that an opening finds have this text.
-fn keeps(alloc: Global, notebook: &MemoryNotebook, text: &str) -> bool {
-    let mut out = Vec::new(alloc);
-    write_notes(&notebook.kept(), &mut out).is_ok() && is_text(out, text.as_bytes())
+/// Returns whether the notes have these texts after a stop.
+fn leaves(folder: &StoppingFolder, shown: &str, kept: &str) -> bool {
+    folder.text_after(Stop::Process) == shown.as_bytes()
+        && folder.text_after(Stop::Machine) == kept.as_bytes()
 }
 
-/// Returns whether a case sends, prints and keeps what it says.
+/// Returns whether a case sends, prints and leaves what it says.
 fn is_as_listed(alloc: Global, case: &Case) -> bool {
-    let Some(notes) = read_notes(case.notes.as_bytes()) else {
+    let folder = StoppingFolder::new(case.notes.as_bytes(), OPENING + case.left, case.does_last);
+    let Ok(mut notes) = NotesFile::open(folder) else {
         return false;
     };
-    let mut notebook = MemoryNotebook::new(notes, case.left, case.keeps_last);
     let receipts: &[Meets] = if case.is_answered {
         &[Meets::Bytes(SERVER, DRAWN)]
     } else {
@@ -161,19 +239,58 @@ fn is_as_listed(alloc: Global, case: &Case) -> bool {
     let mut out = Vec::new(alloc);
     let asked = if case.is_draw {
         let body = Asked::Draw.body();
-        ask_by_notes(&mut notebook, &mut link, SERVER, body, tries, &mut out)
+        ask_by_notes(&mut notes, &mut link, SERVER, body, tries, &mut out)
     } else {
-        ask_again(&mut notebook, &mut link, SERVER, tries, &mut out)
+        ask_again(&mut notes, &mut link, SERVER, tries, &mut out)
     };
     asked == Ok(case.status)
         && is_text(out, case.line.as_bytes())
         && link.log().len() == case.sends
-        && keeps(alloc, &notebook, case.kept)
+        && leaves(&notes.folder, case.shown, case.kept)
 }
 
 #[test]
-fn a_request_by_notes_survives_a_stop_at_each_replacement(rt: HostRuntime) {
+fn a_request_by_notes_survives_a_stop_at_each_call(rt: HostRuntime) {
+    for case in STOPS {
+        assert!(rt; holds(&rt, case, is_as_listed(rt.alloc(), case)));
+    }
+}
+
+#[test]
+fn a_request_by_notes_is_asked_or_refused(rt: HostRuntime) {
     for case in CASES {
         assert!(rt; holds(&rt, case, is_as_listed(rt.alloc(), case)));
     }
+}
+
+/// Returns whether notes with this text cannot be opened, if the folder stops after these calls.
+fn is_unopened(text: &str, left: u32, fault: NotesFault) -> bool {
+    match NotesFile::open(StoppingFolder::new(text.as_bytes(), left, true)) {
+        Ok(_) => false,
+        Err(found) => found == fault,
+    }
+}
+
+#[test]
+fn notes_are_opened_only_after_their_names_are_flushed(rt: HostRuntime) {
+    assert!(rt; is_unopened(NEW, 0, NotesFault::Store));
+    assert!(rt; is_unopened(NEW, 1, NotesFault::Store));
+    assert!(rt; is_unopened("", OPENING, NotesFault::Damaged));
+}
+
+/// Returns whether new notes leave these texts, if the folder stops after these calls.
+fn are_created(left: u32, shown: &str, kept: &str) -> bool {
+    let Some(notes) = Notes::new(7, 1, 9) else {
+        return false;
+    };
+    match NotesFile::create(StoppingFolder::new(b"", left, false), &notes) {
+        Ok(file) => left >= 5 && leaves(&file.folder, shown, kept),
+        Err(fault) => left < 5 && fault == NotesFault::Store,
+    }
+}
+
+#[test]
+fn new_notes_are_on_disk(rt: HostRuntime) {
+    assert!(rt; are_created(4, "", ""));
+    assert!(rt; are_created(5, NEW, NEW));
 }

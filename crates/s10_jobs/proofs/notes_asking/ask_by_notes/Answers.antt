@@ -1,4 +1,4 @@
-use Rattle.std.proofs.Common.{◌≡◌, ◌∙◌, sym, ap, subst, refl, inl, inr, None, Some}
+use Rattle.std.proofs.Common.{◌≡◌, ◌∙◌, sym, ap, subst, refl, inl, inr, None}
 use Rattle.s10_link.specs.Link.LeadsTo.{none}
 use Rattle.s10_notes.specs.Notes.{NotesState, after_take, next_request, take_fault}
 use Rattle.s10_notes.specs.Lives.{Life}
@@ -23,7 +23,7 @@ returns-in-Err-replace-clause-lived g c = λ first sent life lived.
     let P : NotesState → Type 0 = λ n. Life first n sent in
     inl (
       lived_unsent g.N.Notebook.held g.N.Notebook.may_find _ _ c.in-Ok.taken c.in-Err-replace.fault
-          first sent c.in-Err-replace.ensures (subst P is (taken life c.args.body free)) lived,
+          first sent c.in-Err-replace.ensures.replaced (subst P is (taken life c.args.body free)) lived,
       refl,
     )
 
@@ -36,7 +36,7 @@ returns-in-Ok-replace-clause-lived g c = λ first sent life lived.
     ap (λ (n : NotesState). after_take n c.args.body) (sym c.notes.ensures)
     ∙ sym c.in-Ok.ensures.taken in
     let P : NotesState → Type 0 = λ n. Life first n sent in
-    let written = c.in-Ok-replace.ensures in
+    let written = c.in-Ok-replace.ensures.replaced in
     inr (c.ask_again.ensures.lived first sent (next_request held c.args.body)
     (λ found h. written.1 found h ∙ sym written.0)
     (ap (λ (n : NotesState). n.request) (written.0 ∙ sym is))

@@ -2,8 +2,8 @@ use Rattle.std.proofs.Common.{false}
 use Rattle.s10_notes.proofs.Replaced.{are_beside, spells_only, failed, renamed, replaced}
 use Rattle.s10_notes.proofs.notes_file.write_over.Goals as goal
 
-pub returns-in_err-rename_beside : goal.returns-in_err-rename_beside
-returns-in_err-rename_beside g c =
+pub returns-in_err-rename_beside-clause-written : goal.returns-in_err-rename_beside-clause-written
+returns-in_err-rename_beside-clause-written g c =
     let text = c.write_notes.new.out in
     let n = c.args.notes.now in
     let old = g.F.Folder.calls c.args.folder.now in
@@ -13,12 +13,12 @@ returns-in_err-rename_beside g c =
     (renamed false text n old (g.F.Folder.calls c.flush_beside.new.self) new
     (spells_only c.new-text.result.items text.items n c.new-text.ensures c.in-Ok.ensures.written
     c.in-Ok.ensures.spelled (rw c.as_slice.ensures.value at c.text_spells_one.ensures))
-    (are_beside text _ _ _ _ c.in_ok-empty_beside.ensures c.in_ok-append_beside.ensures
-    c.in_ok-flush_beside.ensures)
-    c.in_err-rename_beside.ensures)
+    (are_beside text _ _ _ _ c.in_ok-empty_beside.ensures.made c.in_ok-append_beside.ensures.made
+    c.in_ok-flush_beside.ensures.made)
+    c.in_err-rename_beside.ensures.made)
 
-pub returns : goal.returns
-returns g c =
+pub returns-clause-written : goal.returns-clause-written
+returns-clause-written g c =
     let text = c.write_notes.new.out in
     let n = c.args.notes.now in
     replaced c.flush.result text n (g.F.Folder.calls c.args.folder.now)
@@ -26,6 +26,6 @@ returns g c =
     (g.F.Folder.calls c.flush.new.self)
     (spells_only c.new-text.result.items text.items n c.new-text.ensures c.in-Ok.ensures.written
     c.in-Ok.ensures.spelled (rw c.as_slice.ensures.value at c.text_spells_one.ensures))
-    (are_beside text _ _ _ _ c.in_ok-empty_beside.ensures c.in_ok-append_beside.ensures
-    c.in_ok-flush_beside.ensures)
-    c.in_ok-rename_beside.ensures c.flush.ensures
+    (are_beside text _ _ _ _ c.in_ok-empty_beside.ensures.made c.in_ok-append_beside.ensures.made
+    c.in_ok-flush_beside.ensures.made)
+    c.in_ok-rename_beside.ensures.made c.flush.ensures.made

@@ -1,0 +1,172 @@
+//! A folder of notes in memory that stops at one of its calls.
+
+ghost use Rattle.std.specs.Prelude.{◌≡◌, ◌∷◌, reverse};
+
+use http_server::Log;
+use s10_notes::{Folder, FolderCall, NotesFault, Text};
+
+/// What becomes of a call.
+#[derive(Clone, Copy, PartialEq, Eq)]
+enum Fate {
+    Succeeds,
+    /// It is made, and fails all the same.
+    FailsDone,
+    /// It is not made.
+    Fails,
+}
+
+/// What stops at the call that fails.
+#[derive(Clone, Copy, Debug)]
+pub(crate) enum Stop {
+    /// The process: all that was written is found.
+    Process,
+    /// The machine: what was not flushed is lost.
+    Machine,
+}
+
+/// A folder in memory. Its calls fail after the first `left`; the first one that fails is made all
+/// the same if `does_last`.
+#[derive(Drop)]
+pub(crate) struct StoppingFolder {
+    // What the notes' file holds, and what of that is on disk.
+    shown: Text,
+    shown_flushed: Text,
+    // What the machine finds under the file's name after a stop.
+    kept: Text,
+    // What the file beside holds, and what of that is on disk.
+    beside: Text,
+    beside_flushed: Text,
+    left: u32,
+    does_last: bool,
+    log: Log<FolderCall, bool>,
+}
+
+/// Returns a text of these bytes, or of the first for which it has room.
+fn text_of(bytes: &[u8]) -> Text {
+    let mut text = Text::new();
+    for byte in bytes {
+        let _fits = text.try_push(*byte);
+    }
+    text
+}
+
+fn result_of(fate: Fate) -> Result<(), NotesFault> {
+    match fate {
+        Fate::Succeeds => Ok(()),
+        Fate::FailsDone | Fate::Fails => Err(NotesFault::Store),
+    }
+}
+
+impl StoppingFolder {
+    pub(crate) fn new(notes: &[u8], left: u32, does_last: bool) -> StoppingFolder {
+        StoppingFolder {
+            shown: text_of(notes),
+            shown_flushed: text_of(notes),
+            kept: text_of(notes),
+            beside: Text::new(),
+            beside_flushed: Text::new(),
+            left,
+            does_last,
+            log: Log::new(),
+        }
+    }
+
+    /// Returns the text that the notes' file has after a stop.
+    pub(crate) fn text_after(&self, stop: Stop) -> &[u8] {
+        match stop {
+            Stop::Process => self.shown.as_slice(),
+            Stop::Machine => self.kept.as_slice(),
+        }
+    }
+
+    fn next_fate(&mut self) -> Fate
+        ensures { self.new.log ≡ self.old.log }
+    {
+        if self.left > 0 {
+            self.left -= 1;
+            return Fate::Succeeds;
+        }
+        if self.does_last {
+            self.does_last = false;
+            return Fate::FailsDone;
+        }
+        Fate::Fails
+    }
+
+    fn note(&mut self, call: FolderCall, done: bool)
+        ensures { reverse self.new.log.items ≡ (call, done) ∷ reverse self.old.log.items }
+    {
+        self.log = self.log.and(&call, &done);
+    }
+}
+
+impl Folder for StoppingFolder {
+    ghost use Rattle.std.specs.Prelude.{[], reverse};
+
+    ghost path = { λ _. [] };
+
+    ghost calls = { λ f. reverse f.log.items };
+
+    fn empty_beside(&mut self) -> Result<(), NotesFault> {
+        let fate = self.next_fate();
+        if fate != Fate::Fails {
+            self.beside = Text::new();
+            self.beside_flushed = Text::new();
+        }
+        let emptied = result_of(fate);
+        self.note(FolderCall::Empty, emptied.is_ok());
+        emptied
+    }
+
+    fn append_beside(&mut self, text: Text) -> Result<(), NotesFault> {
+        let fate = self.next_fate();
+        if fate != Fate::Fails {
+            self.beside = text_of(text.as_slice());
+        }
+        let appended = result_of(fate);
+        self.note(FolderCall::Append(text), appended.is_ok());
+        appended
+    }
+
+    fn flush_beside(&mut self) -> Result<(), NotesFault> {
+        let fate = self.next_fate();
+        if fate != Fate::Fails {
+            self.beside_flushed = text_of(self.beside.as_slice());
+        }
+        let flushed = result_of(fate);
+        self.note(FolderCall::Flush, flushed.is_ok());
+        flushed
+    }
+
+    fn rename_beside(&mut self) -> Result<(), NotesFault> {
+        let fate = self.next_fate();
+        if fate != Fate::Fails {
+            self.shown = text_of(self.beside.as_slice());
+            self.shown_flushed = text_of(self.beside_flushed.as_slice());
+        }
+        let renamed = result_of(fate);
+        self.note(FolderCall::Rename, renamed.is_ok());
+        renamed
+    }
+
+    fn flush(&mut self) -> Result<(), NotesFault> {
+        let fate = self.next_fate();
+        if fate != Fate::Fails {
+            self.kept = text_of(self.shown_flushed.as_slice());
+        }
+        let flushed = result_of(fate);
+        self.note(FolderCall::FlushFolder, flushed.is_ok());
+        flushed
+    }
+
+    fn read(&mut self) -> Result<Text, NotesFault> {
+        if self.next_fate() != Fate::Succeeds {
+            return Err(NotesFault::Store);
+        }
+        self.shown_flushed = text_of(self.shown.as_slice());
+        let noted = text_of(self.shown.as_slice());
+        let text = text_of(self.shown.as_slice());
+        self.note(FolderCall::Read(noted), true);
+        Ok(text)
+    }
+}
