@@ -3,7 +3,7 @@ use Rattle.std.proofs.Common.{◌≡◌, ◌⊎◌, ℕ, Bool, true, List, [], �
 use Rattle.std.specs.Prelude.{is_ok, IsErr}
 use Rattle.arrayvec.specs.ArrayVec.{ArrayVec}
 use Rattle.s10_notes.specs.declared.folder_call.FolderCall.{FolderCall}
-use Rattle.s10_notes.specs.declared.folder_call.FolderCall.TheVariants.{Empty, Append, Flush, Rename, FlushFolder}
+use Rattle.s10_notes.specs.declared.folder_call.FolderCall.TheVariants.{Empty, Append, Sync, Rename, SyncFolder}
 use Rattle.s10_notes.specs.declared.notes_fault.NotesFault.{NotesFault}
 use Rattle.s10_notes.specs.Folder.{FolderCalls, may_hold}
 use Rattle.s10_notes.specs.Notes.{NotesState}
@@ -12,7 +12,7 @@ use Rattle.s10_notes.specs.Text.{SpellsNotes, SpellsOnly, notes_text}
 
 -- The calls that write a text beside the notes' file.
 abbrev pub beside : ArrayVec ℕ → FolderCalls → FolderCalls
-beside text before = (Flush, true) ∷ (Append text, true) ∷ (Empty, true) ∷ before
+beside text before = (Sync, true) ∷ (Append text, true) ∷ (Empty, true) ∷ before
 
 -- One call after others that are known.
 after : (call : FolderCall × Bool) (h h' known : FolderCalls) → h' ≡ call ∷ h → h ≡ known
@@ -20,8 +20,8 @@ after : (call : FolderCall × Bool) (h h' known : FolderCalls) → h' ≡ call �
 after call h h' known last before = last ∙ ap (λ calls. call ∷ calls) before
 
 pub are_beside : (text : ArrayVec ℕ) (h0 h1 h2 h3 : FolderCalls) → h1 ≡ (Empty, true) ∷ h0
-    → h2 ≡ (Append text, true) ∷ h1 → h3 ≡ (Flush, true) ∷ h2 → h3 ≡ beside text h0
-are_beside text h0 h1 h2 h3 first second third = after (Flush, true) h2 h3
+    → h2 ≡ (Append text, true) ∷ h1 → h3 ≡ (Sync, true) ∷ h2 → h3 ≡ beside text h0
+are_beside text h0 h1 h2 h3 first second third = after (Sync, true) h2 h3
     ((Append text, true) ∷ (Empty, true) ∷ h0) third
     (after (Append text, true) h1 h2 ((Empty, true) ∷ h0) second first)
 
@@ -56,13 +56,13 @@ pub failed : (r : Result (Unit {0}) NotesFault) (old new : FolderCalls) (n : Not
 failed (Ok _) old new n is writes = absurd cc
 failed (Err fault) old new n is writes = writes
 
--- After a flush of the names that may have failed.
+-- After a sync of the names that may have failed.
 pub replaced : (r : Result (Unit {0}) NotesFault) (text : ArrayVec ℕ) (n : NotesState)
     (h0 h3 h4 h5 : FolderCalls) → SpellsOnly text.items n → h3 ≡ beside text h0
-    → h4 ≡ (Rename, true) ∷ h3 → h5 ≡ (FlushFolder, is_ok r) ∷ h4 → WritesNotes h0 h5 n r
+    → h4 ≡ (Rename, true) ∷ h3 → h5 ≡ (SyncFolder, is_ok r) ∷ h4 → WritesNotes h0 h5 n r
 replaced (Ok _) text n h0 h3 h4 h5 spells written renames last = λ found may.
     same_text text.items found n spells (subst (λ h. may_hold h found)
-    (after (FlushFolder, true) h4 h5 ((Rename, true) ∷ beside text h0) last
+    (after (SyncFolder, true) h4 h5 ((Rename, true) ∷ beside text h0) last
     (after (Rename, true) h3 h4 (beside text h0) renames written)) may)
 replaced (Err fault) text n h0 h3 h4 h5 spells written renames last = λ found may.
     renamed true text n h0 h3 h4 spells written renames found

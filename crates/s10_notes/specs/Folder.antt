@@ -1,7 +1,7 @@
 -- What the notes' file may hold after a stop.
 use Rattle.std.specs.Prelude.{◌≡◌, ◌⊎◌, ℕ, Bool, true, List, [], ◌∷◌, ◌++◌, ⊤, Option, Some, None}
 use Rattle.s10_notes.specs.declared.folder_call.FolderCall.{FolderCall}
-use Rattle.s10_notes.specs.declared.folder_call.FolderCall.TheVariants.{Empty, Append, Flush, Rename, FlushFolder, Read}
+use Rattle.s10_notes.specs.declared.folder_call.FolderCall.TheVariants.{Empty, Append, Sync, Rename, SyncFolder, Read}
 
 -- The calls that were made on a folder, the last first, each with whether it succeeded.
 abbrev pub FolderCalls : Type 0
@@ -20,22 +20,22 @@ written calls = None
 
 -- The text that the file beside keeps through a stop of the machine, if it is known.
 abbrev pub kept_beside : FolderCalls → Option (List ℕ)
-kept_beside ((Flush, true) ∷ before) = written before
+kept_beside ((Sync, true) ∷ before) = written before
 kept_beside calls = None
 
--- The text is that of the file which was renamed; it may be any if that was not flushed before.
+-- The text is that of the file which was renamed; it may be any if that was not synced before.
 abbrev pub IsRenamed : Option (List ℕ) → List ℕ → Type 0
 IsRenamed (Some kept) text = text ≡ kept
 IsRenamed None text = ⊤
 
 -- After these calls, a stop of the process or of the machine may leave this text in the notes' file.
 --
--- The calls of an earlier process are not known: it may have stopped between a rename and the flush
--- of the names. A text that is read after a flush of the names stays. A rename, also one that fails,
--- may or may not be found; one that succeeded and whose names were flushed is found.
+-- The calls of an earlier process are not known: it may have stopped between a rename and the sync
+-- of the names. A text that is read after a sync of the names stays. A rename, also one that fails,
+-- may or may not be found; one that succeeded and whose names were synced is found.
 abbrev pub may_hold : FolderCalls → List ℕ → Type 0
 may_hold [] text = ⊤
-may_hold ((Read found, true) ∷ (FlushFolder, true) ∷ before) text = text ≡ found.items
-may_hold ((FlushFolder, true) ∷ (Rename, true) ∷ before) text = IsRenamed (kept_beside before) text
+may_hold ((Read found, true) ∷ (SyncFolder, true) ∷ before) text = text ≡ found.items
+may_hold ((SyncFolder, true) ∷ (Rename, true) ∷ before) text = IsRenamed (kept_beside before) text
 may_hold ((Rename, done) ∷ before) text = may_hold before text ⊎ IsRenamed (kept_beside before) text
 may_hold (call ∷ before) text = may_hold before text

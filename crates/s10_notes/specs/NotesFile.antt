@@ -1,7 +1,7 @@
 -- The notes in a file.
 use Rattle.std.specs.Prelude.{◌≡◌, ◌⊎◌, ℕ, true, List, ◌∷◌, Result, Ok, Err}
 use Rattle.arrayvec.specs.ArrayVec.{ArrayVec}
-use Rattle.s10_notes.specs.declared.folder_call.FolderCall.TheVariants.{FlushFolder, Read}
+use Rattle.s10_notes.specs.declared.folder_call.FolderCall.TheVariants.{SyncFolder, Read}
 use Rattle.s10_notes.specs.declared.notes_fault.NotesFault.{NotesFault}
 use Rattle.s10_notes.specs.Folder.{FolderCalls, may_hold}
 use Rattle.s10_notes.specs.Notes.{NotesState}
@@ -11,10 +11,10 @@ use Rattle.s10_notes.specs.Text.{SpellsNotes, SpellsOnly}
 abbrev pub may_spell : FolderCalls → NotesState → Type 0
 may_spell calls notes = (text : List ℕ) × may_hold calls text × SpellsNotes text notes
 
--- The names were flushed and the notes' file was read, and it spells these notes.
+-- The names were synced and the notes' file was read, and it spells these notes.
 pub record ReadsNotes (old new : FolderCalls) (notes : NotesState) : Type 0 where
   pub text : ArrayVec ℕ
-  pub calls : new ≡ (Read text, true) ∷ (FlushFolder, true) ∷ old
+  pub calls : new ≡ (Read text, true) ∷ (SyncFolder, true) ∷ old
   pub spells : SpellsNotes text.items notes
 
 -- Whatever stops, the notes' file holds a text of these notes or, if the calls failed, may still hold

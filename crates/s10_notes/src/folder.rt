@@ -2,7 +2,7 @@
 
 ghost use Rattle.std.specs.Prelude.{◌≡◌, ◌∷◌, ℕ, List, is_ok, IfOk, OnErr, true};
 ghost use Rattle.s10_notes.specs.Folder.{FolderCalls};
-ghost use Rattle.s10_notes.specs.declared.folder_call.FolderCall.TheVariants.{Empty, Append, Flush, Rename, FlushFolder, Read};
+ghost use Rattle.s10_notes.specs.declared.folder_call.FolderCall.TheVariants.{Empty, Append, Sync, Rename, SyncFolder, Read};
 
 use crate::folder_call::Text;
 use crate::notes_fault::NotesFault;
@@ -29,8 +29,8 @@ pub trait Folder {
         ensures at { path self.new ≡ path self.old };
 
     /// Makes what the file beside holds survive a stop of the machine.
-    fn flush_beside(&mut self) -> Result<(), NotesFault>
-        ensures made { calls self.new ≡ (Flush, is_ok result) ∷ calls self.old }
+    fn sync_beside(&mut self) -> Result<(), NotesFault>
+        ensures made { calls self.new ≡ (Sync, is_ok result) ∷ calls self.old }
         ensures at { path self.new ≡ path self.old };
 
     /// Puts the file beside in the place of the notes' file.
@@ -39,8 +39,8 @@ pub trait Folder {
         ensures at { path self.new ≡ path self.old };
 
     /// Makes the names in the folder survive a stop of the machine.
-    fn flush(&mut self) -> Result<(), NotesFault>
-        ensures made { calls self.new ≡ (FlushFolder, is_ok result) ∷ calls self.old }
+    fn sync(&mut self) -> Result<(), NotesFault>
+        ensures made { calls self.new ≡ (SyncFolder, is_ok result) ∷ calls self.old }
         ensures at { path self.new ≡ path self.old };
 
     /// Makes what the notes' file holds survive a stop of the machine, and returns it.

@@ -14,11 +14,11 @@ pub enum FolderCall {
     /// Appends the text to the file beside.
     Append(Text),
     /// Makes what the file beside holds survive a stop of the machine.
-    Flush,
+    Sync,
     /// Puts the file beside in the place of the notes' file.
     Rename,
     /// Makes the names in the folder survive a stop of the machine.
-    FlushFolder,
+    SyncFolder,
     /// Makes what the notes' file holds survive a stop of the machine, and reads it: the text is all
     /// that it holds.
     Read(Text),

@@ -89,8 +89,8 @@ impl<'a> HostFolder<'a> {
         })
     }
 
-    // Notes a call, and whether it succeeded.
-    fn note(&mut self, call: FolderCall, done: bool)
+    // Logs a call, and whether it succeeded.
+    fn log_call(&mut self, call: FolderCall, done: bool)
         ensures { self.new ≡ record { path = self.old.path; calls = (call, done) ∷ self.old.calls } }
     {
         self.log = self.log.and(&call, &done);
@@ -104,33 +104,33 @@ impl Folder for HostFolder<'_> {
 
     fn empty_beside(&mut self) -> Result<(), NotesFault> {
         let opened = create_beside(self.rt, self.path);
-        self.note(FolderCall::Empty, opened.is_ok());
+        self.log_call(FolderCall::Empty, opened.is_ok());
         self.beside = Some(opened?);
         Ok(())
     }
 
     fn append_beside(&mut self, text: Text) -> Result<(), NotesFault> {
         let appended = append(&mut self.beside, text.as_slice());
-        self.note(FolderCall::Append(text), appended.is_ok());
+        self.log_call(FolderCall::Append(text), appended.is_ok());
         appended
     }
 
-    fn flush_beside(&mut self) -> Result<(), NotesFault> {
-        let flushed = flush_file(&self.beside);
-        self.note(FolderCall::Flush, flushed.is_ok());
-        flushed
+    fn sync_beside(&mut self) -> Result<(), NotesFault> {
+        let synced = sync_file(&self.beside);
+        self.log_call(FolderCall::Sync, synced.is_ok());
+        synced
     }
 
     fn rename_beside(&mut self) -> Result<(), NotesFault> {
         let renamed = rename_onto(self.rt, self.path);
-        self.note(FolderCall::Rename, renamed.is_ok());
+        self.log_call(FolderCall::Rename, renamed.is_ok());
         renamed
     }
 
-    fn flush(&mut self) -> Result<(), NotesFault> {
-        let flushed = flush_folder_of(self.rt, self.path);
-        self.note(FolderCall::FlushFolder, flushed.is_ok());
-        flushed
+    fn sync(&mut self) -> Result<(), NotesFault> {
+        let synced = sync_folder_of(self.rt, self.path);
+        self.log_call(FolderCall::SyncFolder, synced.is_ok());
+        synced
     }
 
     fn read(&mut self) -> Result<Text, NotesFault> {
@@ -138,7 +138,7 @@ impl Folder for HostFolder<'_> {
         let len = read_file(self.rt, self.path, &mut room)?;
         let noted = text_of(&room[..len])?;
         let text = text_of(&room[..len])?;
-        self.note(FolderCall::Read(noted), true);
+        self.log_call(FolderCall::Read(noted), true);
         Ok(text)
     }
 }
@@ -181,7 +181,7 @@ fn append(file: &mut Option<File>, text: &[u8]) -> Result<(), NotesFault> {
     }
 }
 
-fn flush_file(file: &Option<File>) -> Result<(), NotesFault> {
+fn sync_file(file: &Option<File>) -> Result<(), NotesFault> {
     match file {
         Some(file) if file.sync_all().is_ok() => Ok(()),
         _ => Err(NotesFault::Store),
@@ -198,7 +198,7 @@ fn rename_onto(rt: &HostRuntime, path: &str) -> Result<(), NotesFault> {
     }
 }
 
-fn flush_folder_of(rt: &HostRuntime, path: &str) -> Result<(), NotesFault> {
+fn sync_folder_of(rt: &HostRuntime, path: &str) -> Result<(), NotesFault> {
     let folder = match Path::new(path).parent() {
         Some(folder) if !folder.as_str().is_empty() => folder.as_str(),
         _ => ".",
@@ -209,7 +209,7 @@ fn flush_folder_of(rt: &HostRuntime, path: &str) -> Result<(), NotesFault> {
     }
 }
 
-// Flushes the file, and reads it.
+// Syncs the file, and reads it.
 fn read_file(rt: &HostRuntime, path: &str, room: &mut [u8; ROOM]) -> Result<usize, NotesFault>
     ensures { IfOk result (λ len. len ≤ 161) }
 {

@@ -38,7 +38,7 @@ impl<F: Folder + Drop> NotesFile<F> {
         ensures at { IfOk result (λ file. F.path file.folder ≡ F.path folder) }
     {
         let mut folder = folder;
-        folder.flush()?;
+        folder.sync()?;
         let text = folder.read()?;
         match read_notes(text.as_slice()) {
             Some(held) => Ok(NotesFile {
@@ -113,7 +113,7 @@ fn write_over<F: Folder>(folder: &mut F, notes: &Notes) -> Result<(), NotesFault
     text_spells_one(text.as_slice());
     folder.empty_beside()?;
     folder.append_beside(text)?;
-    folder.flush_beside()?;
+    folder.sync_beside()?;
     folder.rename_beside()?;
-    folder.flush()
+    folder.sync()
 }

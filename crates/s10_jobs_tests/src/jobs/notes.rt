@@ -87,8 +87,8 @@ const UNRECORDED: Case = Case {
 };
 
 const STOPS: &[Case] = &[
-    // At the calls that write the request down: the file beside is emptied, written, flushed and
-    // renamed, and the names are flushed. A name that is not flushed is found only if the machine
+    // At the calls that write the request down: the file beside is emptied, written, synced and
+    // renamed, and the names are synced. A name that is not synced is found only if the machine
     // goes on.
     Case { left: 0, ..UNSENT },
     Case {

@@ -20,7 +20,7 @@ enum Fate {
 pub(crate) enum Stop {
     /// The process: all that was written is found.
     Process,
-    /// The machine: what was not flushed is lost.
+    /// The machine: what was not synced is lost.
     Machine,
 }
 
@@ -30,12 +30,12 @@ pub(crate) enum Stop {
 pub(crate) struct StoppingFolder {
     // What the notes' file holds, and what of that is on disk.
     shown: Text,
-    shown_flushed: Text,
+    shown_synced: Text,
     // What the machine finds under the file's name after a stop.
     kept: Text,
     // What the file beside holds, and what of that is on disk.
     beside: Text,
-    beside_flushed: Text,
+    beside_synced: Text,
     left: u32,
     does_last: bool,
     log: Log<FolderCall, bool>,
@@ -61,10 +61,10 @@ impl StoppingFolder {
     pub(crate) fn new(notes: &[u8], left: u32, does_last: bool) -> StoppingFolder {
         StoppingFolder {
             shown: text_of(notes),
-            shown_flushed: text_of(notes),
+            shown_synced: text_of(notes),
             kept: text_of(notes),
             beside: Text::new(),
-            beside_flushed: Text::new(),
+            beside_synced: Text::new(),
             left,
             does_last,
             log: Log::new(),
@@ -93,7 +93,7 @@ impl StoppingFolder {
         Fate::Fails
     }
 
-    fn note(&mut self, call: FolderCall, done: bool)
+    fn log_call(&mut self, call: FolderCall, done: bool)
         ensures { reverse self.new.log.items ≡ (call, done) ∷ reverse self.old.log.items }
     {
         self.log = self.log.and(&call, &done);
@@ -111,10 +111,10 @@ impl Folder for StoppingFolder {
         let fate = self.next_fate();
         if fate != Fate::Fails {
             self.beside = Text::new();
-            self.beside_flushed = Text::new();
+            self.beside_synced = Text::new();
         }
         let emptied = result_of(fate);
-        self.note(FolderCall::Empty, emptied.is_ok());
+        self.log_call(FolderCall::Empty, emptied.is_ok());
         emptied
     }
 
@@ -124,49 +124,49 @@ impl Folder for StoppingFolder {
             self.beside = text_of(text.as_slice());
         }
         let appended = result_of(fate);
-        self.note(FolderCall::Append(text), appended.is_ok());
+        self.log_call(FolderCall::Append(text), appended.is_ok());
         appended
     }
 
-    fn flush_beside(&mut self) -> Result<(), NotesFault> {
+    fn sync_beside(&mut self) -> Result<(), NotesFault> {
         let fate = self.next_fate();
         if fate != Fate::Fails {
-            self.beside_flushed = text_of(self.beside.as_slice());
+            self.beside_synced = text_of(self.beside.as_slice());
         }
-        let flushed = result_of(fate);
-        self.note(FolderCall::Flush, flushed.is_ok());
-        flushed
+        let synced = result_of(fate);
+        self.log_call(FolderCall::Sync, synced.is_ok());
+        synced
     }
 
     fn rename_beside(&mut self) -> Result<(), NotesFault> {
         let fate = self.next_fate();
         if fate != Fate::Fails {
             self.shown = text_of(self.beside.as_slice());
-            self.shown_flushed = text_of(self.beside_flushed.as_slice());
+            self.shown_synced = text_of(self.beside_synced.as_slice());
         }
         let renamed = result_of(fate);
-        self.note(FolderCall::Rename, renamed.is_ok());
+        self.log_call(FolderCall::Rename, renamed.is_ok());
         renamed
     }
 
-    fn flush(&mut self) -> Result<(), NotesFault> {
+    fn sync(&mut self) -> Result<(), NotesFault> {
         let fate = self.next_fate();
         if fate != Fate::Fails {
-            self.kept = text_of(self.shown_flushed.as_slice());
+            self.kept = text_of(self.shown_synced.as_slice());
         }
-        let flushed = result_of(fate);
-        self.note(FolderCall::FlushFolder, flushed.is_ok());
-        flushed
+        let synced = result_of(fate);
+        self.log_call(FolderCall::SyncFolder, synced.is_ok());
+        synced
     }
 
     fn read(&mut self) -> Result<Text, NotesFault> {
         if self.next_fate() != Fate::Succeeds {
             return Err(NotesFault::Store);
         }
-        self.shown_flushed = text_of(self.shown.as_slice());
+        self.shown_synced = text_of(self.shown.as_slice());
         let noted = text_of(self.shown.as_slice());
         let text = text_of(self.shown.as_slice());
-        self.note(FolderCall::Read(noted), true);
+        self.log_call(FolderCall::Read(noted), true);
         Ok(text)
     }
 }
