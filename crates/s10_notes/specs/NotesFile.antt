@@ -17,7 +17,7 @@ pub record ReadsNotes (old new : FolderCalls) (notes : NotesState) : Type 0 wher
   pub calls : new ≡ (Read text, true) ∷ (SyncFolder, true) ∷ old
   pub spells : SpellsNotes text.items notes
 
--- Whatever stops, the notes' file holds a text of these notes or, if the calls failed, may still hold
+-- After a stop, the notes' file holds a text of these notes. If the calls failed, it may still hold
 -- what it might before.
 abbrev pub WritesNotes : FolderCalls → FolderCalls → NotesState → Result (Unit {0}) NotesFault
     → Type 0

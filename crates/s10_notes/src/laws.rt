@@ -8,8 +8,8 @@ ghost use Rattle.s10_notes.specs.Text.{SpellsNotes};
 
 use crate::reading::read_notes;
 
-/// States that no number is sent with two requests, in all processes of a client, whichever notes
-/// each opening finds.
+/// States that no number is sent with two requests, in all processes of a client and for any notes
+/// that an opening may find.
 pub fn numbers_are_used_once()
     ensures { (first n : NotesState) (sent : List Request) → first.request ≡ None
         → Life first n sent → UsesOnce n sent }

@@ -42,7 +42,7 @@ struct Case {
     notes: &'static str,
     /// The calls of the folder after the opening and before one fails.
     left: u32,
-    /// Whether that call is made all the same.
+    /// Whether that call is made, though it fails.
     does_last: bool,
     /// Whether the reply arrives.
     is_answered: bool,
@@ -272,7 +272,7 @@ fn is_unopened(text: &str, left: u32, fault: NotesFault) -> bool {
 }
 
 #[test]
-fn notes_are_opened_only_after_their_names_are_flushed(rt: HostRuntime) {
+fn notes_are_opened_only_after_their_names_are_synced(rt: HostRuntime) {
     assert!(rt; is_unopened(NEW, 0, NotesFault::Store));
     assert!(rt; is_unopened(NEW, 1, NotesFault::Store));
     assert!(rt; is_unopened("", OPENING, NotesFault::Damaged));

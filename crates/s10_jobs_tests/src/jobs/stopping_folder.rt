@@ -9,7 +9,7 @@ use s10_notes::{Folder, FolderCall, NotesFault, Text};
 #[derive(Clone, Copy, PartialEq, Eq)]
 enum Fate {
     Succeeds,
-    /// It is made, and fails all the same.
+    /// It is made, but fails.
     FailsDone,
     /// It is not made.
     Fails,
@@ -24,8 +24,8 @@ pub(crate) enum Stop {
     Machine,
 }
 
-/// A folder in memory. Its calls fail after the first `left`; the first one that fails is made all
-/// the same if `does_last`.
+/// A folder in memory. Its calls fail after the first `left`; the first one that fails is made
+/// nevertheless if `does_last`.
 #[derive(Drop)]
 pub(crate) struct StoppingFolder {
     // What the notes' file holds, and what of that is on disk.
