@@ -79,7 +79,7 @@ fn run<'a, S: Start, D: Days, W: AsStr, I: Read + Drop, O: Write + Drop>(
 {
     let (line, output) = match run_buffered(rt, words, input, output) {
         Ok(ran) => ran,
-        Err(error) => return failed(rt, &error),
+        Err(error) => return (failed(rt, &error), None),
     };
     let job = match line {
         LineEnd::Ended(status) => {
@@ -94,7 +94,7 @@ fn run<'a, S: Start, D: Days, W: AsStr, I: Read + Drop, O: Write + Drop>(
     };
     let mut output = match BufWriter::new(rt.alloc(), output) {
         Ok(output) => output,
-        Err(error) => return failed(rt, &error),
+        Err(error) => return (failed(rt, &error), None),
     };
     let JobEnd { done, resources } = run_job(rt, &job, seed, start, days, &mut output);
     match (flush_buffer(output), done) {
@@ -106,16 +106,16 @@ fn run<'a, S: Start, D: Days, W: AsStr, I: Read + Drop, O: Write + Drop>(
             };
             (ended.status, Some(ended))
         }
-        (Ok(_), Err(WriteFault)) => failed(rt, &io::Error::from(ErrorKind::WriteZero)),
-        (Err(error), _) => failed(rt, &error),
+        (Ok(_), Err(WriteFault)) => (failed(rt, &io::Error::from(ErrorKind::WriteZero)), None),
+        (Err(error), _) => (failed(rt, &error), None),
     }
 }
 
 // Prints why a command line has no end. Returns the status.
-fn failed<T>(rt: &HostRuntime, error: &io::Error) -> (u8, Option<T>)
-    ensures { (result.0 ≡ 3) × (result.1 ≡ None) }
+fn failed(rt: &HostRuntime, error: &io::Error) -> u8
+    ensures { result ≡ 3 }
 {
-    (print_failure(rt, error) as u8, None)
+    print_failure(rt, error) as u8
 }
 
 // Prints why the words of the command line cannot be read, and returns the status.
