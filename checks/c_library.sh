@@ -138,7 +138,7 @@ if have dpkg dpkg-deb dpkg-shlibdeps dpkg-architecture strip pkg-config git && i
     fi
 fi
 
-program=$(readlink -f "${1:-$top/crates/s10/out/s10}")
+program=$(readlink -m "${1:-$top/crates/s10/out/s10}")
 what="client in Python"
 if have python3; then
     cp -r "$top/contrib/python" python
