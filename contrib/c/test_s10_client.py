@@ -12,13 +12,11 @@ import signal
 import subprocess
 import sys
 import tempfile
-import time
-from collections import Counter
 from pathlib import Path
 
 sys.path.insert(0, str(Path(__file__).resolve().parent.parent / "python"))
 from s10client import Client                      # noqa: E402
-from test_s10client import DAY, Proxy, Server, s10  # noqa: E402
+from test_s10client import DAY, Networks, Server, run_and_kill, s10  # noqa: E402
 
 DRAW = os.path.abspath(sys.argv[1])
 KILLS = int(sys.argv[2]) if len(sys.argv) > 2 else 1000
@@ -41,46 +39,16 @@ class Log:
             assert self.drawn.setdefault(int(number), identifier) == identifier, line
 
 
-class Networks:
-    """A network that loses, repeats and delays. It is a new one after 100 runs, since a proxy has a
-    socket for each port that it hears from."""
-
-    def __init__(self, server):
-        self.server, self.runs, self.proxy, self.counts = server, 0, None, Counter()
-
-    def address(self):
-        """The address for one more run."""
-        if self.runs % 100 == 0:
-            self.stop()
-            self.proxy = Proxy(self.server, seed=self.runs, lost=0.15, repeated=0.2, late=0.2)
-        self.runs += 1
-        return self.proxy.address
-
-    def stop(self):
-        """Ends the network."""
-        if self.proxy is not None:
-            self.proxy.stop()
-            self.counts.update(self.proxy.counts)
-            self.proxy = None
-
-
 def run(notes, address, count, kill_after=None):
     """Runs the client, kills it after some seconds, and returns what it printed and its status."""
-    words = [DRAW, notes, address[0], str(address[1]), "RA", "GB", str(count), str(WAIT)]
-    with subprocess.Popen(words, stdout=subprocess.PIPE, stderr=subprocess.DEVNULL,
-                          text=True) as process:
-        if kill_after is not None:
-            time.sleep(kill_after)
-            process.send_signal(signal.SIGKILL)
-        output = process.stdout.read()
-    return output, process.returncode
+    return run_and_kill([DRAW, notes, address[0], str(address[1]), "RA", "GB", str(count), str(WAIT)], kill_after)
 
 
 def main():
     choose = random.Random(1)
     with tempfile.TemporaryDirectory() as folder:
         server = Server(folder)
-        networks = Networks(server.address)
+        networks = Networks(server.address, lost=0.15, repeated=0.2, late=0.2)
         to = "{}:{}".format(*server.address)
         granted = s10("grant", "--to", to, "--number", 1, "--holder", 7, "--service", "RA",
                       "--country", "GB", "--first", 0, "--last", 99999)

@@ -11,12 +11,14 @@ import random
 import select
 import shutil
 import socket
+import struct
 import subprocess
 import sys
 import tempfile
 import threading
 import time
 import unittest
+from collections import Counter, defaultdict
 
 import s10client
 from s10client import (AlreadyVoid, BadGrant, Client, Closed, Drawn, GaveUp, NoneFree, NoRange, NoSuchRange,
@@ -66,13 +68,15 @@ class Proxy:
     """Relays between the clients and a server. Loses, repeats and delays datagrams both ways.
 
     A seeded choice decides whether a datagram is lost. If not, it decides how often it is sent, and
-    whether a copy of it is sent after some later ones.
+    whether a copy of it is sent after some later ones. `requests` has the datagrams that clients sent,
+    by their customer and number.
     """
 
     def __init__(self, server, seed, lost=0.3, repeated=0.3, late=0.2):
         self.server, self.lost, self.repeated, self.late = server, lost, repeated, late
         self.choose = random.Random(seed)
         self.counts = {"lost": 0, "repeated": 0, "late": 0, "passed": 0}
+        self.requests = defaultdict(set)
         self.front = socket.socket(socket.AF_INET, socket.SOCK_DGRAM)
         self.front.bind(("127.0.0.1", 0))
         self.address = self.front.getsockname()
@@ -89,6 +93,7 @@ class Proxy:
             for ready in select.select(sockets, [], [], 0.05)[0]:
                 datagram, sender = ready.recvfrom(2048)
                 if ready is self.front:
+                    self.requests[struct.unpack_from(">II", datagram, 4)].add(datagram)
                     if sender not in self.backs:
                         self.backs[sender] = socket.socket(socket.AF_INET, socket.SOCK_DGRAM)
                     self.pass_on(self.backs[sender], datagram, self.server)
@@ -121,6 +126,41 @@ class Proxy:
         self.thread.join()
         for link in (self.front, *self.backs.values()):
             link.close()
+
+
+class Networks:
+    """Proxies one after another, each for 100 runs, since a proxy has a socket for each port that it hears from."""
+
+    def __init__(self, server, **rates):
+        self.server, self.rates, self.runs, self.proxy = server, rates, 0, None
+        self.counts, self.requests = Counter(), defaultdict(set)
+
+    def address(self):
+        """Returns the address for one more run."""
+        if self.runs % 100 == 0:
+            self.stop()
+            self.proxy = Proxy(self.server, seed=self.runs, **self.rates)
+        self.runs += 1
+        return self.proxy.address
+
+    def stop(self):
+        """Ends the proxy, and adds what it counted and heard."""
+        if self.proxy is not None:
+            self.proxy.stop()
+            self.counts.update(self.proxy.counts)
+            for key, sent in self.proxy.requests.items():
+                self.requests[key] |= sent
+            self.proxy = None
+
+
+def run_and_kill(words, after=None):
+    """Runs a program and kills it with SIGKILL after some seconds. Returns what it printed and its status."""
+    with subprocess.Popen(words, stdout=subprocess.PIPE, stderr=subprocess.DEVNULL, text=True) as process:
+        if after is not None:
+            time.sleep(after)
+            process.kill()
+        output = process.stdout.read()
+    return output, process.returncode
 
 
 class ServedTest(unittest.TestCase):
