@@ -383,8 +383,7 @@ def run_page(room, steps, handlers):
 
 def withdraw(room, command):
     """Withdraws the second of two ranges."""
-    room.serve(SERVE.format("ledger"))
-    room.must(GRANT.format(1, 0, 2), "range 1")
+    room.serve_new(0, 2, draws=0)
     room.must(GRANT.format(2, 4, 9), "range 2")
     run_and_compare(room, command)
     room.stop()
@@ -392,6 +391,33 @@ def withdraw(room, command):
 
 def serve_and_stop(room, command):
     run_and_compare(room, command)
+    room.stop()
+
+
+def create_notes(room, command):
+    """Creates notes, and serves a ledger from which their customer can draw."""
+    room.serve_new(0, 99, draws=0)
+    run_and_compare(room, command)
+
+
+def ask_without_a_server(room, command):
+    room.stop()
+    run_and_compare(room, command)
+
+
+def ask_again(room, command):
+    """Serves the ledger again, and asks the open request of the notes."""
+    room.serve(SERVE.format("ledger"))
+    run_and_compare(room, command)
+
+
+def label_by_notes(room, command):
+    """Runs the script, which draws, and once more when a draw gave up: then it has the reply to that."""
+    compare(command.where(), ["RA000000028GB"], room.run(command.text)[1])
+    room.stop()
+    compare(command.where(), ["gave-up"], room.run(f"s10 draw {TO} --notes printer.notes --service RA --country GB --tries 1")[1])
+    room.serve(SERVE.format("ledger"))
+    compare(command.where(), ["RA000000031GB"], room.run(command.text)[1])
     room.stop()
 
 
@@ -443,6 +469,10 @@ def copy_while_served(room, command):
 
 
 OPERATING = {
+    "s10 notes": create_notes,
+    f"s10 draw {TO} --notes printer.notes --service RA --country GB --tries 1": ask_without_a_server,
+    "s10 again": ask_again,
+    'ask="--to': label_by_notes,
     "s10 withdraw": withdraw,
     "s10 serve": serve_and_stop,
     "while s10 serve": serve_in_a_loop,
