@@ -62,7 +62,7 @@ headless rows name none is (Ask q) asks = no_call rows name none
 headless rows name none is (AskByNotes q) asks = no_call rows name none
     (record { to = q.to; asker = Noted q.notes; tries = q.tries }) q.body asks
 headless rows name none is (Create ledger settings) asks = other _ _ asks.0 is refl
-headless rows name none is (Serve ledger bind count day until) asks = other _ _ asks.0 is refl
+headless rows name none is (Serve ledger bind options until) asks = other _ _ asks.0 is refl
 headless rows name none is (Notes file customer first lst) asks = other _ _ asks.0 is refl
 headless rows name none is (Again to notes tries) asks = other _ _ asks.0 is refl
 headless rows name none is (Report ledger Ranges day) asks = other _ _ asks.0.0 is refl

@@ -12,7 +12,7 @@ use Rattle.s10_jobs.specs.declared.body_words.BodyWords.TheVariants.{Grant, Draw
 use Rattle.s10_jobs.specs.declared.body_words.BodyWords.TheVariants.{Withdraw, Void, Query}
 use Rattle.s10_grammar.specs.Grammar.{grammar}
 use Rattle.s10_cli.specs.Options.{Finds, HasText, HasNumber, HasSerial, HasSettings, HasCount}
-use Rattle.s10_cli.specs.Options.{HasTries, IsFlag, AreCallOptions}
+use Rattle.s10_cli.specs.Options.{HasTries, HasTurnOptions, IsFlag, AreCallOptions}
 use Rattle.s10_cli.specs.declared.asker.Asker.TheVariants.{Numbered, Noted}
 use Rattle.s10_cli.specs.declared.call_options.CallOptions.{CallOptions}
 use Rattle.s10_cli.specs.declared.line_end.LineEnd.{LineEnd}
@@ -61,10 +61,9 @@ IsKind name rows Info = name ≡ codes "info"
 abbrev pub AsksFor : List ℕ → List Row → Job → Type 0
 AsksFor name rows (Create ledger settings) = (name ≡ codes "create") × HasText rows (codes "ledger")
     ledger.now × HasSettings rows settings
-AsksFor name rows (Serve ledger bind count day until) = (name ≡ codes "serve")
+AsksFor name rows (Serve ledger bind options until) = (name ≡ codes "serve")
     × HasText rows (codes "ledger") ledger.now
-    × HasText rows (codes "bind") bind.now × HasNumber rows (codes "count") count
-    × Finds (HasNumber rows (codes "day")) day
+    × HasText rows (codes "bind") bind.now × HasTurnOptions rows options
     × Finds (HasText rows (codes "until")) (option_map (λ path. path.now) until)
 AsksFor name rows (Ask q) =
     IsCallOf name rows (record { to = q.to; asker = Numbered q.customer q.number; tries = q.tries })

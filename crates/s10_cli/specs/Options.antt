@@ -7,6 +7,7 @@ use Rattle.clap.specs.declared.parser.matches.ArgMatches.{ArgMatches}
 use Rattle.s10_core.specs.Serial.{IsSerial}
 use Rattle.s10_wire.specs.Ids.{IsCount}
 use Rattle.s10_history.specs.Settings.{Terms, AreTerms}
+use Rattle.s10_jobs.specs.declared.turn_options.TurnOptions.{TurnOptions}
 use Rattle.s10_cli.specs.declared.asker.Asker.{Asker}
 use Rattle.s10_cli.specs.declared.asker.Asker.TheVariants.{Numbered, Noted}
 use Rattle.s10_cli.specs.declared.call_options.CallOptions.{CallOptions}
@@ -57,6 +58,12 @@ HasCount rows count = HasNumber rows (codes "count") count × IsCount count
 -- The maximum number of tries of a call, 1 to 100.
 abbrev pub HasTries : List Row → ℕ → Type 0
 HasTries rows tries = HasNumber rows (codes "tries") tries × (1 ≤ tries) × (tries ≤ 100)
+
+-- The options of the turns of a server. Its days may be left out.
+abbrev pub HasTurnOptions : List Row → TurnOptions → Type 0
+HasTurnOptions rows options = HasNumber rows (codes "count") options.count
+    × Finds (HasNumber rows (codes "day")) options.day
+    × Finds (HasNumber rows (codes "most-days-ahead")) options.most_days_ahead
 
 -- A serial, 0 to 99999999.
 abbrev pub HasSerial : List Row → List ℕ → ℕ → Type 0

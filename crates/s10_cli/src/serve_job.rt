@@ -5,7 +5,7 @@ ghost use Rattle.s10_cli.specs.Jobs.{AsksFor};
 
 use crate::option_values::{number_of, text_of};
 use clap::ArgMatches;
-use s10_jobs::Job;
+use s10_jobs::{Job, TurnOptions};
 
 /// Returns the job of serving a ledger that the words of `serve` ask for.
 ///
@@ -17,8 +17,11 @@ pub fn serve_job<'a>(found: &ArgMatches<'a>) -> Option<Job<'a>>
     Some(Job::Serve {
         ledger: text_of(found, "ledger")?,
         bind: text_of(found, "bind")?,
-        count: number_of(found, "count")?,
-        day: number_of(found, "day"),
+        options: TurnOptions {
+            count: number_of(found, "count")?,
+            day: number_of(found, "day"),
+            most_days_ahead: number_of(found, "most-days-ahead"),
+        },
         until: text_of(found, "until"),
     })
 }

@@ -1,6 +1,7 @@
 //! Builds the subcommand `serve`.
 ghost use Rattle.std.specs.Prelude.{IfOk};
-ghost use Rattle.s10_grammar.specs.Grammar.{Follows, ReadsAs, serve_shape, turn_count};
+ghost use Rattle.std.specs.Prelude.{codes};
+ghost use Rattle.s10_grammar.specs.Grammar.{Follows, ReadsAs, a_count, serve_shape, turn_count};
 
 use crate::builders::{named, option, text_option, with};
 use crate::options::{day_option, ledger_option};
@@ -41,13 +42,14 @@ pub fn serve_command<'a>(alloc: Global) -> Result<Command<'a>, AllocError>
             "End within a second once this file is there, and close the ledger; it must not be there at the start",
         ),
     );
-    with(
+    let command = with(
         command,
         day_option(
             alloc,
             "The day of all requests; by default the clock's day, read before each batch",
         ),
-    )
+    );
+    with(command, days_ahead_option(alloc))
 }
 
 fn turn_count_option<'a>(alloc: Global) -> Arg<'a>
@@ -61,6 +63,18 @@ fn turn_count_option<'a>(alloc: Global) -> Arg<'a>
     )
     .value_parser(value_parser!(u32))
     .default_value("4294967295")
+}
+
+fn days_ahead_option<'a>(alloc: Global) -> Arg<'a>
+    ensures { Follows result (a_count (codes "most-days-ahead")) }
+{
+    option(
+        alloc,
+        "most-days-ahead",
+        "N",
+        "End with `clock` if the clock's day is more than this many days past the day of the last call",
+    )
+    .value_parser(value_parser!(u32))
 }
 
 const SERVE_EXAMPLES: &str = "\
@@ -85,12 +99,13 @@ pending are written, the ledger is closed, and the exit status is 0. A line of a
                      store
   ledger store       after the turns: the last calls could not be written, or the ledger not closed
   link bind          the address cannot be bound
-  clock              the clock gives no day
+  clock              the clock gives no day, or one that `--most-days-ahead` refuses
 If standard output fails, `serve` ends with status 3 and standard error says why.
 
 A stop at any moment leaves a ledger that opens. Standard error has the address that is served at,
-the reason why a ledger cannot be opened, and the sender of a dropped datagram, in at most one line
-a minute. There is no authentication: whoever reaches the address can ask as customer 0.
+the reason why a ledger cannot be opened, both days if `--most-days-ahead` refuses one, and the
+sender of a dropped datagram, in at most one line a minute. There is no authentication: whoever
+reaches the address can ask as customer 0.
 
 Example:
   s10 serve --ledger post.db --bind 127.0.0.1:4711 --count 1

@@ -24,6 +24,7 @@ use Rattle.s10_rows.specs.declared.open_fault.OpenFault.{OpenFault}
 use Rattle.s10_rows.specs.declared.open_fault.OpenFault.TheVariants.{Store}
 use Rattle.s10_jobs.specs.declared.job_status.JobStatus.{JobStatus}
 use Rattle.s10_jobs.specs.declared.job_status.JobStatus.TheVariants.{Done, Refused, Failed}
+use Rattle.s10_jobs.specs.declared.turn_options.TurnOptions.{TurnOptions}
 use Rattle.s10_jobs.specs.declared.job.Job.{Job}
 use Rattle.s10_jobs.specs.Lines.{refused_line}
 use Rattle.s10_link.specs.Peer.{SpellsPeer}
@@ -288,12 +289,12 @@ module _ (S : RattleType) (first : Ghosts S.Denot) where
       (failed, fault, inr (inl is), written)
   absent_or_refused old new (Err e) printed = tt
 
-  was_honest : {C : Type 0} (gives : C → Option ℕ → C → Type 0) (day : Option ℕ) (begun ended : C)
-      (count : ℕ) (named : Bool) (old new : Option (List ℕ))
+  was_honest : {C : Type 0} (gives : C → Option ℕ → C → Type 0) (options : TurnOptions)
+      (begun ended : C) (named : Bool) (old new : Option (List ℕ))
       (opened after : FileLedger S first) (result : Result JobStatus WriteFault) (link : BoundLink)
-      → TurnsUntil over_files gives day begun ended count named opened after old new result link
+      → TurnsUntil over_files gives options begun ended named opened after old new result link
       → IsHonest over_files after → IsHonest over_files opened
-  was_honest gives day begun ended count named old new opened after result link turns h =
+  was_honest gives options begun ended named old new opened after result link turns h =
       (turns.1.composed h).was_honest
 
   -- Which calls the files of a served ledger hold.
@@ -317,24 +318,24 @@ module _ (S : RattleType) (first : Ghosts S.Denot) where
             put.left copies,
       )
 
-  served_away : {C : Type 0} (gives : C → Option ℕ → C → Type 0) (day : Option ℕ) (begun ended : C)
-      (count : ℕ) (named : Bool) (old new last : Option (List ℕ))
+  served_away : {C : Type 0} (gives : C → Option ℕ → C → Type 0) (options : TurnOptions)
+      (begun ended : C) (named : Bool) (old new last : Option (List ℕ))
       (opened served : FileLedger S first) (closed : FileConnection S first)
       (committed : Result (Unit {0}) BookFault) (done result : Result JobStatus WriteFault)
       (files : Option (ClosedFiles S first)) (link : BoundLink)
-      → TurnsUntil over_files gives day begun ended count named opened served old new done link
+      → TurnsUntil over_files gives options begun ended named opened served old new done link
       → IsClosedAs over_files served closed committed
       → IfSome files (λ f. Copies closed f × EndsAs committed done new last result)
-      → IfSome files (IsServed S first gives opened day begun ended count named old last result link)
-  served_away gives day begun ended count named old new last opened served closed committed done result None link turns put
+      → IfSome files (IsServed S first gives opened options begun ended named old last result link)
+  served_away gives options begun ended named old new last opened served closed committed done result None link turns put
       kept = tt
-  served_away gives day begun ended count named old new last opened served closed committed done result (Some f) link turns
+  served_away gives options begun ended named old new last opened served closed committed done result (Some f) link turns
       put (copies, ends) = record {
         served = served;
         turned = done;
         between = new;
         turns = turns;
-        was_honest = was_honest gives day begun ended count named old new opened served done link turns;
+        was_honest = was_honest gives options begun ended named old new opened served done link turns;
         ends = ends_served served closed committed f done result new last put copies ends;
       }
 
@@ -394,14 +395,14 @@ module _ (S : RattleType) (first : Ghosts S.Denot) where
 
   -- How the turns over existing files ended.
   served_over : {C : Type 0} (gives : C → Option ℕ → C → Type 0) (bind : List ℕ) (at : Peer)
-      (day : Option ℕ) (begun ended : C) (count : ℕ) (named after : Bool)
+      (options : TurnOptions) (begun ended : C) (named after : Bool)
       (was : FileConnection S first)
       (old new : Option (List ℕ)) (result : Result JobStatus WriteFault)
       (files : Option (ClosedFiles S first)) (link : Option BoundLink)
       → SpellsPeer bind at → IsFoundIn (image_at first) was
-      → EndsOver gives (Serve at count day) begun ended EndsIfNamed named after was old new result files link
-      → HasServed S first gives bind day begun ended count named old new result files link
-  served_over gives bind at day begun ended count named after was old new result None None text found
+      → EndsOver gives (Serve at options) begun ended EndsIfNamed named after was old new result files link
+      → HasServed S first gives bind options begun ended named old new result files link
+  served_over gives bind at options begun ended named after was old new result None None text found
       (inr refused) = record {
         at = tt;
         served = tt;
@@ -416,7 +417,7 @@ module _ (S : RattleType) (first : Ghosts S.Denot) where
               }))) refused.printed,
         )));
       }
-  served_over gives bind at day begun ended count named after was old new result (Some f) None text found
+  served_over gives bind at options begun ended named after was old new result (Some f) None text found
       (inr refused) = record {
         at = tt;
         served = tt;
@@ -426,9 +427,9 @@ module _ (S : RattleType) (first : Ghosts S.Denot) where
               found refused.printed refused.kept,
         )));
       }
-  served_over gives bind at day begun ended count named after was old new result files (Some l) text found
+  served_over gives bind at options begun ended named after was old new result files (Some l) text found
       (inr refused) = absurd (let none = refused.no_link in cc)
-  served_over gives bind at day begun ended count named after was old new result files None text found
+  served_over gives bind at options begun ended named after was old new result files None text found
       (inl over) =
       let (opened, opening, served, put, unbound, turns) = over.worked in
       record {
@@ -442,7 +443,7 @@ module _ (S : RattleType) (first : Ghosts S.Denot) where
               files opening.none_pending (unbound refl) put over.kept over.lost,
         )));
       }
-  served_over gives bind at day begun ended count named after was old new result files (Some l) text found
+  served_over gives bind at options begun ended named after was old new result files (Some l) text found
       (inl over) =
       let (opened, opening, served, put, unbound, (bound, turns)) = over.worked in
       record {
@@ -450,14 +451,14 @@ module _ (S : RattleType) (first : Ghosts S.Denot) where
         served = (
           opened,
           found_book (image_at first) was opened found opening,
-          served_away gives day begun ended count named old over.between new opened served over.closed
+          served_away gives options begun ended named old over.between new opened served over.closed
               over.committed over.done result files l (after, turns) put over.kept,
           λ none. record {
             served = served;
             turned = over.done;
             between = over.between;
             turns = (after, turns);
-            was_honest = was_honest gives day begun ended count named old over.between opened served
+            was_honest = was_honest gives options begun ended named old over.between opened served
                 over.done l (after, turns);
             printed = over.lost none;
           },
@@ -467,34 +468,34 @@ module _ (S : RattleType) (first : Ghosts S.Denot) where
 
   -- The same, where the file is named if one was given.
   pub served_until : {C : Type 0} (gives : C → Option ℕ → C → Type 0) (bind : List ℕ) (at : Peer)
-      (day : Option ℕ) (begun ended : C) (count : ℕ) (named given after : Bool)
+      (options : TurnOptions) (begun ended : C) (named given after : Bool)
       (was : FileConnection S first)
       (old new : Option (List ℕ)) (result : Result JobStatus WriteFault)
       (files : Option (ClosedFiles S first)) (link : Option BoundLink) → named ≡ given
       → SpellsPeer bind at → IsFoundIn (image_at first) was
-      → EndsOver gives (Serve at count day) begun ended EndsIfNamed named after was old new result
+      → EndsOver gives (Serve at options) begun ended EndsIfNamed named after was old new result
       files link
-      → HasServed S first gives bind day begun ended count given old new result files link
-  served_until gives bind at day begun ended count named given after was old new result files link
+      → HasServed S first gives bind options begun ended given old new result files link
+  served_until gives bind at options begun ended named given after was old new result files link
       same text found ends =
-      subst (λ (b : Bool). HasServed S first gives bind day begun ended count b old new result files
+      subst (λ (b : Bool). HasServed S first gives bind options begun ended b old new result files
       link) same
-      (served_over gives bind at day begun ended count named after was old new result files link text
+      (served_over gives bind at options begun ended named after was old new result files link text
       found ends)
 
   -- An address that does not read.
   pub no_peer : {C : Type 0} (gives : C → Option ℕ → C → Type 0) (bind text : List ℕ)
-      (day : Option ℕ) (begun ended : C) (count : ℕ) (named : Bool) (old new : Option (List ℕ))
+      (options : TurnOptions) (begun ended : C) (named : Bool) (old new : Option (List ℕ))
       (printed result : Result JobStatus WriteFault) (files : Option (ClosedFiles S first))
       (link : Option BoundLink) (made : Option Peer)
       → made ≡ None → ((p : Peer) → SpellsPeer text p → made ≡ Some p) → text ≡ bind
       → IfOk printed (λ status. (status ≡ Refused)
       × Appends old new (refused_line (codes "peer" ∷ [])))
       → result ≡ printed → link ≡ None → files ≡ None
-      → HasServed S first gives bind day begun ended count named old new result files link
-  no_peer gives bind text day begun ended count named old new printed result files link made none read
+      → HasServed S first gives bind options begun ended named old new result files link
+  no_peer gives bind text options begun ended named old new printed result files link made none read
       same says is gone no_files =
-      subst (HasServed S first gives bind day begun ended count named old new result files) (sym gone)
+      subst (HasServed S first gives bind options begun ended named old new result files) (sym gone)
       (record {
         at = tt;
         served = tt;
@@ -510,16 +511,16 @@ module _ (S : RattleType) (first : Ghosts S.Denot) where
 
   -- A file that ends the turns is there already.
   pub until_there : {C : Type 0} (gives : C → Option ℕ → C → Type 0) (bind : List ℕ) (at : Peer)
-      (day : Option ℕ) (begun ended : C) (count : ℕ) (named : Bool) (old new : Option (List ℕ))
+      (options : TurnOptions) (begun ended : C) (named : Bool) (old new : Option (List ℕ))
       (result : Result JobStatus WriteFault) (files : Option (ClosedFiles S first))
       (link : Option BoundLink) → SpellsPeer bind at → named ≡ true
       → IfOk result (λ status. (status ≡ Refused)
       × Appends old new (refused_line (codes "until" ∷ [])))
       → link ≡ None → files ≡ None
-      → HasServed S first gives bind day begun ended count named old new result files link
-  until_there gives bind at day begun ended count named old new result files link text is says gone
+      → HasServed S first gives bind options begun ended named old new result files link
+  until_there gives bind at options begun ended named old new result files link text is says gone
       no_files =
-      subst (HasServed S first gives bind day begun ended count named old new result files)
+      subst (HasServed S first gives bind options begun ended named old new result files)
       (sym gone)
       (record {
         at = tt;
@@ -537,15 +538,15 @@ module _ (S : RattleType) (first : Ghosts S.Denot) where
 
   -- A ledger whose file could not be opened is not served.
   pub not_served : {C : Type 0} (gives : C → Option ℕ → C → Type 0) (bind : List ℕ) (at : Peer)
-      (day : Option ℕ) (begun ended : C) (count : ℕ) (named : Bool) (fault : OpenFault) (old new : Option (List ℕ))
+      (options : TurnOptions) (begun ended : C) (named : Bool) (fault : OpenFault) (old new : Option (List ℕ))
       (result : Result JobStatus WriteFault) (files : Option (ClosedFiles S first))
       (link : Option BoundLink) → SpellsPeer bind at → IsAbsenceOr IsFileFault fault
       → IfOk result (λ status. (status ≡ Failed) × Appends old new (ledger_line fault))
       → files ≡ None → link ≡ None
-      → HasServed S first gives bind day begun ended count named old new result files link
-  not_served gives bind at day begun ended count named fault old new result files link text is says none
+      → HasServed S first gives bind options begun ended named old new result files link
+  not_served gives bind at options begun ended named fault old new result files link text is says none
       gone =
-      subst (HasServed S first gives bind day begun ended count named old new result files) (sym gone)
+      subst (HasServed S first gives bind options begun ended named old new result files) (sym gone)
       (record {
         at = tt;
         served = tt;

@@ -116,7 +116,7 @@ module _ {D : Type 0} {g : Ghosts D} where
       → IsJobRefusal over_files job was left fault → IsClean over_files left
       → IsOpen over_files left → IsRefusedBy job fault (file_state was).now
   refused_by (Create terms) was left fault refusal clean opened = refusal
-  refused_by (Serve at count day) was left fault refusal clean opened = refusal clean opened
+  refused_by (Serve at options) was left fault refusal clean opened = refusal clean opened
   refused_by (ReportOn report) was left fault refusal clean opened = refusal clean opened
   refused_by Audit was left fault refusal clean opened = refusal clean opened
 

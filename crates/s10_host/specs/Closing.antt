@@ -12,6 +12,7 @@ use Rattle.s10_ledger.specs.Ledger.{history_in, history_of}
 use Rattle.s10_ledger.specs.Ledger.{committed_of}
 use Rattle.s10_statements.specs.ConnectionState.{IsClean, IsOpen}
 use Rattle.s10_jobs.specs.declared.job_status.JobStatus.{JobStatus}
+use Rattle.s10_jobs.specs.declared.turn_options.TurnOptions.{TurnOptions}
 use Rattle.s10_jobs.specs.Serving.{ServesTurns}
 use Rattle.s10_host.specs.UntilFile.{EndsIfNamed}
 
@@ -35,19 +36,20 @@ module _ {S : Type 0} (g : Ghosts S) where
     pub same : book.pending ≡ [] → closed ≡ book.conn
     pub none_pending : book.pending ≡ [] → OnErr commit_result ⊥
 
-  -- The turns on a new link, on the given day or on those of a source, and their lines.
-  abbrev pub Turns : {C E : Type 0} → (C → Option ℕ → C → Type 0) → Option ℕ → C → C
-      → (E → Bool → E → Type 0) → E → E → ℕ → Ledger S → Ledger S → Option (List ℕ) → Option (List ℕ) → Result JobStatus WriteFault → BoundLink
+  -- The turns of these options on a new link, on the given day or on those of a source, and their
+  -- lines.
+  abbrev pub Turns : {C E : Type 0} → (C → Option ℕ → C → Type 0) → TurnOptions → C → C
+      → (E → Bool → E → Type 0) → E → E → Ledger S → Ledger S → Option (List ℕ) → Option (List ℕ) → Result JobStatus WriteFault → BoundLink
       → Type 0
-  Turns gives day first last says begun ended count opened served old new result link =
+  Turns gives options first last says begun ended opened served old new result link =
       ServesTurns (λ (b : Ledger S). b.faults) (IsHonest g) (λ b. b.terms) (history_of g)
-      (committed_of g) (IsOverCleanDisk g) (MayFind g) gives day says
-      (new_trace, opened) (link.trace, served) first last begun ended old new count result
+      (committed_of g) (IsOverCleanDisk g) (MayFind g) gives options says
+      (new_trace, opened) (link.trace, served) first last begun ended old new result
 
   -- The same, where the turns may end before their count only if a file is named that ends them.
-  abbrev pub TurnsUntil : {C : Type 0} → (C → Option ℕ → C → Type 0) → Option ℕ → C → C → ℕ → Bool
+  abbrev pub TurnsUntil : {C : Type 0} → (C → Option ℕ → C → Type 0) → TurnOptions → C → C → Bool
       → Ledger S → Ledger S → Option (List ℕ) → Option (List ℕ) → Result JobStatus WriteFault
       → BoundLink → Type 0
-  TurnsUntil gives day first last count named opened served old new result link =
+  TurnsUntil gives options first last named opened served old new result link =
       (after : Bool)
-      × Turns gives day first last EndsIfNamed named after count opened served old new result link
+      × Turns gives options first last EndsIfNamed named after opened served old new result link

@@ -23,6 +23,7 @@ use Rattle.s10_rows.specs.declared.open_fault.OpenFault.{OpenFault}
 use Rattle.s10_rows.specs.declared.open_fault.OpenFault.TheVariants.{Store}
 use Rattle.s10_jobs.specs.declared.job_status.JobStatus.{JobStatus}
 use Rattle.s10_jobs.specs.declared.job_status.JobStatus.TheVariants.{Done, Refused, Failed}
+use Rattle.s10_jobs.specs.declared.turn_options.TurnOptions.{TurnOptions}
 use Rattle.s10_jobs.specs.declared.question.Question.{Question}
 use Rattle.s10_jobs.specs.Questions.{IsPeerText}
 use Rattle.s10_jobs.specs.Lines.{refused_line}
@@ -135,24 +136,24 @@ module _ (S : RattleType) (first : Ghosts S.Denot) where
 
   -- The ledger was served in turns, which are all that the link carried, and closed in these files.
   pub record IsServed {C : Type 0} (gives : C → Option ℕ → C → Type 0)
-      (opened : FileLedger S first) (day : Option ℕ) (begun ended : C) (count : ℕ)
+      (opened : FileLedger S first) (options : TurnOptions) (begun ended : C)
       (named : Bool) (old new : Option (List ℕ)) (result : Result JobStatus WriteFault) (link : BoundLink)
       (files : ClosedFiles S first) : Type 0 where
     pub served : FileLedger S first
     pub turned : Result JobStatus WriteFault
     pub between : Option (List ℕ)
-    pub turns : TurnsUntil over_files gives day begun ended count named opened served old between turned link
+    pub turns : TurnsUntil over_files gives options begun ended named opened served old between turned link
     pub was_honest : IsHonest over_files served → IsHonest over_files opened
     pub ends : EndsServed served turned between new result files
 
   -- The ledger was served in turns, and could not be closed.
   pub record IsLost {C : Type 0} (gives : C → Option ℕ → C → Type 0) (opened : FileLedger S first)
-      (day : Option ℕ) (begun ended : C) (count : ℕ) (named : Bool) (old new : Option (List ℕ))
+      (options : TurnOptions) (begun ended : C) (named : Bool) (old new : Option (List ℕ))
       (result : Result JobStatus WriteFault) (link : BoundLink) : Type 0 where
     pub served : FileLedger S first
     pub turned : Result JobStatus WriteFault
     pub between : Option (List ℕ)
-    pub turns : TurnsUntil over_files gives day begun ended count named opened served old between turned link
+    pub turns : TurnsUntil over_files gives options begun ended named opened served old between turned link
     pub was_honest : IsHonest over_files served → IsHonest over_files opened
     pub printed : FailsByClosing turned between new result
 
@@ -191,14 +192,14 @@ module _ (S : RattleType) (first : Ghosts S.Denot) where
   -- was written, it was honest when it was closed, and so when it was opened. Or there is no link,
   -- and the line says why.
   pub record HasServed {C : Type 0} (gives : C → Option ℕ → C → Type 0) (bind : List ℕ)
-      (day : Option ℕ) (begun ended : C) (count : ℕ) (named : Bool) (old new : Option (List ℕ))
+      (options : TurnOptions) (begun ended : C) (named : Bool) (old new : Option (List ℕ))
       (result : Result JobStatus WriteFault) (files : Option (ClosedFiles S first))
       (link : Option BoundLink) : Type 0 where
     pub at : IfSome link (λ l. (at : Peer) × SpellsPeer bind at × IsBoundAt at l.at)
     pub served : IfSome link (λ l. (opened : FileLedger S first)
         × WhereClean (IsFoundBook (image_at first)) opened
-        × IfSome files (IsServed gives opened day begun ended count named old new result l)
-        × (files ≡ None → IsLost gives opened day begun ended count named old new result l))
+        × IfSome files (IsServed gives opened options begun ended named old new result l)
+        × (files ≡ None → IsLost gives opened options begun ended named old new result l))
     pub unlinked : link ≡ None → HasNoLink bind named old new result files
 
   -- The report of the ledger's history was printed, unless the book or the writer failed.
@@ -280,8 +281,8 @@ module _ (S : RattleType) (first : Ghosts S.Denot) where
       → Option OpenNotes → Type 0
   HasEnded gives (job.Create ledger settings) begun ended old new result files link looped notes =
       HasCreated settings old new result files
-  HasEnded gives (job.Serve ledger bind count day until) begun ended old new result files link looped notes =
-      HasServed gives bind.now day begun ended count (is_some until) old new result files link
+  HasEnded gives (job.Serve ledger bind options until) begun ended old new result files link looped notes =
+      HasServed gives bind.now options begun ended (is_some until) old new result files link
   HasEnded gives (job.Ask question) begun ended old new result files link looped notes =
       HasAsked question old new result link
   HasEnded gives (job.AskByNotes question) begun ended old new result files link looped notes =

@@ -25,6 +25,7 @@ use Rattle.s10_ledger.specs.Ledger.{committed_of}
 use Rattle.s10_ledger.specs.Refusals.{IsOpeningRefusal}
 use Rattle.s10_jobs.specs.declared.job_status.JobStatus.{JobStatus}
 use Rattle.s10_jobs.specs.declared.job_status.JobStatus.TheVariants.{Done, Failed}
+use Rattle.s10_jobs.specs.declared.turn_options.TurnOptions.{TurnOptions}
 use Rattle.s10_jobs.specs.Reporting.{report_lines, PrintsReport}
 use Rattle.s10_jobs.specs.Unbound.{IsUnbound}
 use Rattle.s10_host.specs.declared.ledger_job.LedgerJob.{LedgerJob}
@@ -57,15 +58,15 @@ module _ {S : Type 0} (g : Ghosts S) where
 
   -- The ledger was opened from a connection, then served in turns at this address unless it could
   -- not be bound, and then closed.
-  abbrev pub HasBeenServed : {C E : Type 0} → (C → Option ℕ → C → Type 0) → Peer → ℕ → Option ℕ → C
+  abbrev pub HasBeenServed : {C E : Type 0} → (C → Option ℕ → C → Type 0) → Peer → TurnOptions → C
       → C → (E → Bool → E → Type 0) → E → E → Held S → Option (List ℕ) → Option (List ℕ) → Result JobStatus WriteFault
       → Option BoundLink → Held S → Result (Unit {0}) BookFault → Type 0
-  HasBeenServed gives at count day first last says begun ended was old new done link closed commit_result =
+  HasBeenServed gives at options first last says begun ended was old new done link closed commit_result =
       (opened : Ledger S) × IsOpenedFrom was opened × (served : Ledger S)
       × IsClosedAs g served closed commit_result
       × (link ≡ None → IsUnbound opened served old new done)
       × IfSome link (λ l. IsBoundAt at l.at
-      × Turns g gives day first last says begun ended count opened served old new done l)
+      × Turns g gives options first last says begun ended opened served old new done l)
 
   -- What a job other than an audit did over a connection, the days that it took, what it printed, the
   -- link and the connection that it returned, and whether all calls are committed.
@@ -76,8 +77,8 @@ module _ {S : Type 0} (g : Ghosts S) where
   HasRunOver gives (Create terms) first last says begun ended was old new done link closed commit_result =
       (book : Ledger S) × IsMadeWith terms was book × IsClosedAs g book closed commit_result
       × (done ≡ Ok Done) × (new ≡ old) × (link ≡ None)
-  HasRunOver gives (Serve at count day) first last says begun ended was old new done link closed commit_result =
-      HasBeenServed gives at count day first last says begun ended was old new done link closed commit_result
+  HasRunOver gives (Serve at options) first last says begun ended was old new done link closed commit_result =
+      HasBeenServed gives at options first last says begun ended was old new done link closed commit_result
   HasRunOver gives (Report report) first last says begun ended was old new done link closed commit_result =
       (opened : Ledger S) × IsOpenedFrom was opened × (reported : Ledger S)
       × IsClosedAs g reported closed commit_result
@@ -98,7 +99,7 @@ module _ {S : Type 0} (g : Ghosts S) where
   -- Why the job was not run: its ledger could not be created, or could not be opened.
   abbrev pub IsJobRefusal : LedgerJob → Held S → Held S → OpenFault → Type 0
   IsJobRefusal (Create terms) was left fault = IsCreateRefusal (state g was).now.schema fault
-  IsJobRefusal (Serve at count day) was left fault = IsRefusedLeft was left fault
+  IsJobRefusal (Serve at options) was left fault = IsRefusedLeft was left fault
   IsJobRefusal (Report report) was left fault = IsRefusedLeft was left fault
   IsJobRefusal Audit was left fault = IsRefusedLeft was left fault
 
@@ -113,7 +114,7 @@ module _ {S : Type 0} (g : Ghosts S) where
 -- The database is refused for the job, with this fault.
 abbrev pub IsRefusedBy : LedgerJob → OpenFault → Database → Type 0
 IsRefusedBy (Create terms) fault db = IsCreateRefusal db.schema fault
-IsRefusedBy (Serve at count day) fault db = IsOpeningRefusal db fault
+IsRefusedBy (Serve at options) fault db = IsOpeningRefusal db fault
 IsRefusedBy (Report report) fault db = IsOpeningRefusal db fault
 IsRefusedBy Audit fault db = IsOpeningRefusal db fault
 

@@ -44,12 +44,9 @@ pub fn run_job<'a, S: Start, D: Days, W: Write>(
         Job::Serve {
             ledger,
             bind,
-            count,
-            day,
+            options,
             until,
-        } => run_serve(
-            rt, *ledger, *bind, *count, *day, *until, seed, start, days, out,
-        ),
+        } => run_serve(rt, *ledger, *bind, *options, *until, seed, start, days, out),
         Job::Ask(question) => run_question(rt, question, out),
         Job::AskByNotes(question) => run_by_notes(rt, question, out),
         Job::Notes {

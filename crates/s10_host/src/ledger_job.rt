@@ -1,7 +1,7 @@
 //! What is asked of the ledger in a file.
 
 use s10_history::Settings;
-use s10_jobs::Report;
+use s10_jobs::{Report, TurnOptions};
 use s10_link::Peer;
 
 /// A job over a ledger.
@@ -13,10 +13,8 @@ pub enum LedgerJob {
     Serve {
         /// The address that the server binds.
         at: Peer,
-        /// The number of turns.
-        count: u32,
-        /// The day of every turn, or `None` for the days of the source.
-        day: Option<u32>,
+        /// How many turns, and on which days.
+        options: TurnOptions,
     },
     /// The printing of a report of the ledger.
     Report(Report),

@@ -65,7 +65,7 @@ where
                 ledger: book.close(),
             })
         }
-        LedgerJob::Serve { at, count, day } => {
+        LedgerJob::Serve { at, options } => {
             let book = SqlBook::open(rt.alloc(), seed, connection, observer)?;
             let batched = Batched::new(book);
             let (done, link, served) = serve_at(
@@ -75,8 +75,7 @@ where
                 batched,
                 days,
                 ends,
-                count,
-                day,
+                options,
                 out,
             );
             Ok(Worked::Closed {

@@ -12,7 +12,7 @@ use crate::ledger_file::LedgerFile;
 use crate::ledger_job::LedgerJob;
 use crate::on_file::{not_connected, run_on_file};
 use crate::until_file::{UntilFile, is_there};
-use s10_jobs::{Days, refuse};
+use s10_jobs::{Days, TurnOptions, refuse};
 use s10_ledger::HashSeed;
 use s10_link::Peer;
 use sqlite::Start;
@@ -25,15 +25,14 @@ pub(crate) fn run_serve<'a, S: Start, D: Days, W: Write>(
     rt: &HostRuntime,
     ledger: &str,
     bind: &str,
-    count: u32,
-    day: Option<u32>,
+    options: TurnOptions,
     until: Option<&str>,
     seed: io::Result<HashSeed>,
     start: S,
     days: &mut D,
     out: &mut W,
 ) -> JobEnd<'a, ClosedFiles<S>>
-    ensures { HasServed S.row S.Start D.gives bind.now day days.old days.new count
+    ensures { HasServed S.row S.Start D.gives bind.now options days.old days.new
         (is_some until.entry) (W.contents out.old) (W.contents out.new) result.done (files_in result.resources)
         (link_in result.resources) }
 {
@@ -54,7 +53,7 @@ pub(crate) fn run_serve<'a, S: Start, D: Days, W: Write>(
         Err(fault) => return not_connected(fault, out),
     };
     eprint_opening(rt, ledger);
-    let job = LedgerJob::Serve { at, count, day };
+    let job = LedgerJob::Serve { at, options };
     let mut ends = UntilFile::new(rt, until);
     let file = LedgerFile::find(rt, ledger);
     match connect_to_ledger(rt, &file, start) {

@@ -1,10 +1,10 @@
 -- Lemmas about the turns of a server, one more batch at a time.
 use Rattle.std.proofs.Common.{◌≡◌, ℕ, ◌+◌, ◌<◌, ◌≤◌, Bool, true, false, List, [], ◌∷◌, ◌++◌, length}
 use Rattle.std.proofs.Common.{Option, Some, None, Result, Ok, Err, refl, sym, ap, subst, ◌∙◌, arith}
-use Rattle.std.proofs.Common.{length-append, map, inl, inr}
+use Rattle.std.proofs.Common.{◌≢◌, length-append, map, inl, inr}
 use Rattle.std.proofs.lemmas.List.{map-append}
 use Rattle.std.proofs.lemmas.List.Elements.{All-nil, All-push}
-use Rattle.std.specs.Prelude.{IfOk, IsErrAnd, All, codes}
+use Rattle.std.specs.Prelude.{IfOk, IsErrAnd, IsSome, All, codes}
 use Rattle.std.specs.List.{flat_map}
 use Rattle.std.specs.Io.KnownBytes.{Appends}
 use Rattle.std.proofs.KnownBytes.{Appends-nil, Appends-trans}
@@ -24,9 +24,11 @@ use Rattle.s10_ends.specs.Composed.{DatedBatch, BatchesLead, IsBatch, turns_in, 
 use Rattle.s10_book.specs.Book.{Grows}
 use Rattle.s10_ends.proofs.Composing.{all_composed}
 use Rattle.s10_ends.proofs.Stops.{survived}
-use Rattle.s10_jobs.specs.Days.{Gives, IsTaken, AreTaken}
+use Rattle.s10_jobs.specs.declared.turn_options.TurnOptions.{TurnOptions}
+use Rattle.s10_jobs.specs.Days.{Gives, IsNoDay, IsTaken, AreTaken}
+use Rattle.s10_jobs.specs.DayGuard.{guard_of, IsNextDay, IsRefusedDay, IsServedDay}
 use Rattle.s10_jobs.specs.Ending.{noes, AreEnded}
-use Rattle.s10_jobs.specs.Serving.{Serves, ServesTurns}
+use Rattle.s10_jobs.specs.Serving.{DaysFit, Serves, ServesTurns}
 
 lead_more : {S : Type 0} (IsStep : S → DatedBatch → S → Type 0) (old : S)
     (batches : List DatedBatch) (mid new : S) (batch : DatedBatch)
@@ -40,6 +42,24 @@ lead_more IsStep old [] mid new batch same step = (
 )
 lead_more IsStep old (first ∷ batches) mid new batch (next, begun, rest) step =
     (next, begun, lead_more IsStep next batches mid new batch rest step)
+
+-- One more batch whose day fits.
+fit_more : {S : Type 0} (IsStep : S → DatedBatch → S → Type 0) (Fits : S → ℕ → Type 0) (old : S)
+    (batches : List DatedBatch) (mid new : S) (batch : DatedBatch)
+    (lead : BatchesLead IsStep old batches mid) (step : IsStep mid batch new)
+    → DaysFit IsStep Fits old mid batches lead → Fits mid batch.day
+    → DaysFit IsStep Fits old new (batches ++ batch ∷ [])
+    (lead_more IsStep old batches mid new batch lead step)
+unfolding BatchesLead DaysFit lead_more
+fit_more IsStep Fits old [] mid new batch same step all fits =
+    (subst (λ s. Fits s batch.day) same fits, tt)
+fit_more IsStep Fits old (first ∷ batches) mid new batch (next, begun, rest) step (one, others) fits =
+    (one, fit_more IsStep Fits next batches mid new batch rest step others fits)
+
+none_fit : {S : Type 0} (IsStep : S → DatedBatch → S → Type 0) (Fits : S → ℕ → Type 0) (s : S)
+    (lead : BatchesLead IsStep s [] s) → DaysFit IsStep Fits s s [] lead
+unfolding DaysFit
+none_fit IsStep Fits s lead = tt
 
 turns_more : (batches : List DatedBatch) (batch : DatedBatch) → turns_in (batches ++ batch ∷ [])
     ≡ turns_in batches ++ batch.turns
@@ -78,7 +98,7 @@ module _ {E : Type 0} (says : E → Bool → E → Type 0) where
 module _ {D : Type 0} (gives : D → Option ℕ → D → Type 0) where
   -- The days of batches so far.
   abbrev pub SoFar : Option ℕ → List ℕ → D → D → Type 0
-  SoFar given days old new = AreTaken gives given days (Ok Done) old new
+  SoFar given days old new = AreTaken gives (λ day. ⊥) given days (Ok Done) old new
 
   pub none_taken : (given : Option ℕ) (source : D) → SoFar given [] source source
   none_taken (Some day) source = (All-nil (λ (d : ℕ). d ≡ day), refl)
@@ -103,39 +123,64 @@ module _ {D : Type 0} (gives : D → Option ℕ → D → Type 0) where
         ∙ map-append (λ (d : ℕ). Some d) (days_of batches) (batch.day ∷ [])),
   )
 
-  -- Days that were taken, if the last lines were not written.
-  days_unprinted : (given : Option ℕ) (days : List ℕ) (old new : D) (fault : WriteFault)
-      → SoFar given days old new → AreTaken gives given days (Err fault) old new
-  days_unprinted (Some day) days old new fault sofar = sofar
-  days_unprinted None days old new fault (answers, gave, are) = (answers, gave, inl are)
+  -- Days that were taken, whichever are refused.
+  days_done : (IsRefused : ℕ → Type 0) (given : Option ℕ) (days : List ℕ) (old new : D)
+      → SoFar given days old new → AreTaken gives IsRefused given days (Ok Done) old new
+  days_done IsRefused (Some day) days old new sofar = sofar
+  days_done IsRefused None days old new sofar = sofar
 
-  -- The source gave no day after these.
-  days_end : (given : Option ℕ) (days : List ℕ) (old mid new : D)
-      (result : Result JobStatus WriteFault)
-      → SoFar given days old mid → IsTaken gives given None mid new
-      → IfOk result (λ status. status ≡ Failed) → AreTaken gives given days result old new
-  days_end (Some day) days old mid new result sofar taken failed = absurd (none-some day taken.0)
-  days_end None days old mid new (Ok Failed) (answers, gave, are) taken failed = (
-    answers ++ None ∷ [],
-    gives_more gives old answers mid new None gave taken,
-    ap (λ (l : List (Option ℕ)). l ++ None ∷ []) are,
-  )
-  days_end None days old mid new (Ok Done) sofar taken failed = absurd cc
-  days_end None days old mid new (Ok Refused) sofar taken failed = absurd cc
-  days_end None days old mid new (Ok CommandLine) sofar taken failed = absurd cc
-  days_end None days old mid new (Err fault) (answers, gave, are) taken failed = (
-    answers ++ None ∷ [],
-    gives_more gives old answers mid new None gave taken,
-    inr (ap (λ (l : List (Option ℕ)). l ++ None ∷ []) are),
-  )
+  -- Days that were taken, if the last lines were not written.
+  days_unprinted : (IsRefused : ℕ → Type 0) (given : Option ℕ) (days : List ℕ) (old new : D)
+      (fault : WriteFault) → SoFar given days old new
+      → AreTaken gives IsRefused given days (Err fault) old new
+  days_unprinted IsRefused (Some day) days old new fault sofar = sofar
+  days_unprinted IsRefused None days old new fault (answers, gave, are) = (answers, gave, inl are)
+
+  -- The source gave no day after these, or one that is refused.
+  days_end : (IsRefused : ℕ → Type 0) (given answer : Option ℕ) (days : List ℕ) (old mid new : D)
+      (result : Result JobStatus WriteFault) → ¬ (given ≢ None)
+      → SoFar given days old mid → IsTaken gives given answer mid new → IsNoDay IsRefused answer
+      → IfOk result (λ status. status ≡ Failed) → AreTaken gives IsRefused given days result old new
+  days_end IsRefused (Some day) answer days old mid new result read sofar taken none failed =
+      absurd (read (λ is. none-some day (sym is)))
+  days_end IsRefused None answer days old mid new (Ok Failed) read (answers, gave, are) taken none
+      failed = (
+        answers ++ answer ∷ [],
+        gives_more gives old answers mid new answer gave taken,
+        (answer, none, ap (λ (l : List (Option ℕ)). l ++ answer ∷ []) are),
+      )
+  days_end IsRefused None answer days old mid new (Ok Done) read sofar taken none failed = absurd cc
+  days_end IsRefused None answer days old mid new (Ok Refused) read sofar taken none failed =
+      absurd cc
+  days_end IsRefused None answer days old mid new (Ok CommandLine) read sofar taken none failed =
+      absurd cc
+  days_end IsRefused None answer days old mid new (Err fault) read (answers, gave, are) taken none
+      failed = (
+        answers ++ answer ∷ [],
+        gives_more gives old answers mid new answer gave taken,
+        inr (answer, none, ap (λ (l : List (Option ℕ)). l ++ answer ∷ []) are),
+      )
+
+pub none_is_none : (r : Option ℕ) → r ≡ None → ¬ IsSome r
+none_is_none r is some = let wrong : false ≡ true = subst (λ (x : Option ℕ). IsSome x) is some in cc
+
+-- The next day, over a book and for an answer that equal these.
+pub next_as : {D B : Type 0} (honest : B → Type 0) (history : B → List Entry)
+    (gives : D → Option ℕ → D → Type 0) (options : TurnOptions) (b book : B) (r answer : Option ℕ)
+    (old new : D) → b ≡ book → r ≡ answer → IsNextDay honest history gives options b r old new
+    → IsNextDay honest history gives options book answer old new
+next_as honest history gives options b book r answer old new same is next =
+    subst (λ x. IsNextDay honest history gives options x answer old new) same
+    (subst (λ x. IsNextDay honest history gives options b x old new) is next)
 
 -- n turns were served, and their lines written.
 pub record HasServed {S D E : Type 0} (IsStep : S → DatedBatch → S → Type 0)
-    (gives : D → Option ℕ → D → Type 0) (given : Option ℕ) (says : E → Bool → E → Type 0)
+    (Fits : S → ℕ → Type 0) (gives : D → Option ℕ → D → Type 0) (given : Option ℕ) (says : E → Bool → E → Type 0)
     (old new : S) (first last : D) (begun ended : E) (held now : Option (List ℕ)) (done : ℕ) :
     Type 0 where
   pub batches : List DatedBatch
   pub lead : BatchesLead IsStep old batches new
+  pub fit : DaysFit IsStep Fits old new batches lead
   pub days : SoFar gives given (days_of batches) first last
   pub asked : GoesOn says batches begun ended
   pub many : length (turns_in batches) ≡ done
@@ -143,21 +188,23 @@ pub record HasServed {S D E : Type 0} (IsStep : S → DatedBatch → S → Type 
 
 -- Turns that were served, with the days that they took and how they ended.
 pub record ServesOn {S D E : Type 0} (IsStep : S → DatedBatch → S → Type 0)
-    (gives : D → Option ℕ → D → Type 0) (given : Option ℕ) (says : E → Bool → E → Type 0)
+    (Fits Refuses : S → ℕ → Type 0) (gives : D → Option ℕ → D → Type 0) (given : Option ℕ) (says : E → Bool → E → Type 0)
     (old new : S) (first last : D) (begun ended : E) (held now : Option (List ℕ)) (count : ℕ)
     (result : Result JobStatus WriteFault) : Type 0 where
   pub serves : Serves IsStep old new held now count result
-  pub days : AreTaken gives given (days_of serves.batches) result first last
+  pub days : AreTaken gives (Refuses new) given (days_of serves.batches) result first last
+  pub fit : DaysFit IsStep Fits old new serves.batches serves.lead
   pub ends : AreEnded says serves.batches count result begun ended
 
 pub none_served : {S D E : Type 0} (IsStep : S → DatedBatch → S → Type 0)
-    (gives : D → Option ℕ → D → Type 0) (given : Option ℕ) (says : E → Bool → E → Type 0) (s : S)
+    (Fits : S → ℕ → Type 0) (gives : D → Option ℕ → D → Type 0) (given : Option ℕ) (says : E → Bool → E → Type 0) (s : S)
     (first : D) (begun : E) (held : Option (List ℕ))
-    → HasServed IsStep gives given says s s first first begun begun held held 0
+    → HasServed IsStep Fits gives given says s s first first begun begun held held 0
 unfolding BatchesLead
-none_served IsStep gives given says s first begun held = record {
+none_served IsStep Fits gives given says s first begun held = record {
   batches = [];
   lead = refl;
+  fit = none_fit IsStep Fits s refl;
   days = none_taken gives given first;
   asked = gives_none says begun;
   many = refl;
@@ -165,19 +212,20 @@ none_served IsStep gives given says s first begun held = record {
 }
 
 module _ {S D E : Type 0} (IsStep : S → DatedBatch → S → Type 0)
-    (gives : D → Option ℕ → D → Type 0) (given : Option ℕ) (says : E → Bool → E → Type 0)
+    (Fits Refuses : S → ℕ → Type 0) (gives : D → Option ℕ → D → Type 0) (given : Option ℕ) (says : E → Bool → E → Type 0)
     (old mid new : S) (first then last : D) (begun at ended : E)
     (held before now : Option (List ℕ)) (done count : ℕ)
-    (served : HasServed IsStep gives given says old mid first then begun at held before done) where
+    (served : HasServed IsStep Fits gives given says old mid first then begun at held before done) where
   -- One more batch, whose lines were written.
   pub batch_served : (batch : DatedBatch) → says at false ended → IsStep mid batch new
-      → IsTaken gives given (Some batch.day) then last
+      → IsTaken gives given (Some batch.day) then last → Fits mid batch.day
       → Appends before now (flat_map turn_line batch.turns)
-      → HasServed IsStep gives given says old new first last begun ended held now
+      → HasServed IsStep Fits gives given says old new first last begun ended held now
       (done + length batch.turns)
-  batch_served batch onward step taken lines = record {
+  batch_served batch onward step taken fits lines = record {
     batches = served.batches ++ batch ∷ [];
     lead = lead_more IsStep old served.batches mid new batch served.lead step;
+    fit = fit_more IsStep Fits old served.batches mid new batch served.lead step served.fit fits;
     days = days_more gives given served.batches batch first then last served.days taken;
     asked = goes_on says served.batches batch begun at ended served.asked onward;
     many = ap length (turns_more served.batches batch)
@@ -193,9 +241,10 @@ module _ {S D E : Type 0} (IsStep : S → DatedBatch → S → Type 0)
   pub batch_unprinted : (batch : DatedBatch) (result : Result JobStatus WriteFault)
       (IsFault : WriteFault → Type 0) → IsErrAnd result IsFault → says at false ended
       → IsStep mid batch new
-      → IsTaken gives given (Some batch.day) then last → done + length batch.turns ≤ count
-      → ServesOn IsStep gives given says old new first last begun ended held now count result
-  batch_unprinted batch (Err fault) IsFault failed onward step taken room =
+      → IsTaken gives given (Some batch.day) then last → Fits mid batch.day
+      → done + length batch.turns ≤ count
+      → ServesOn IsStep Fits Refuses gives given says old new first last begun ended held now count result
+  batch_unprinted batch (Err fault) IsFault failed onward step taken fits room =
       record {
         serves = record {
           batches = served.batches ++ batch ∷ [];
@@ -209,18 +258,19 @@ module _ {S D E : Type 0} (IsStep : S → DatedBatch → S → Type 0)
           );
           shows = tt;
         };
-        days = days_unprinted gives given (days_of (served.batches ++ batch ∷ [])) first last fault
-            (days_more gives given served.batches batch first then last served.days taken);
+        days = days_unprinted gives (Refuses new) given (days_of (served.batches ++ batch ∷ [])) first
+            last fault (days_more gives given served.batches batch first then last served.days taken);
+        fit = fit_more IsStep Fits old served.batches mid new batch served.lead step served.fit fits;
         ends = (
           noes (served.batches ++ batch ∷ []),
           goes_on says served.batches batch begun at ended served.asked onward,
           inl refl,
         );
       }
-  batch_unprinted batch (Ok status) IsFault failed onward step taken room = absurd failed
+  batch_unprinted batch (Ok status) IsFault failed onward step taken fits room = absurd failed
 
   pub all_served : done ≡ count
-      → ServesOn IsStep gives given says old mid first then begun at held before count (Ok Done)
+      → ServesOn IsStep Fits Refuses gives given says old mid first then begun at held before count (Ok Done)
   all_served same = record {
     serves = record {
       batches = served.batches;
@@ -228,13 +278,14 @@ module _ {S D E : Type 0} (IsStep : S → DatedBatch → S → Type 0)
       few = omega (arith, served.many, same);
       shows = served.written;
     };
-    days = served.days;
+    days = days_done gives (Refuses mid) given (days_of served.batches) first then served.days;
+    fit = served.fit;
     ends = (noes served.batches, served.asked, inl (served.many ∙ same, refl));
   }
 
   -- The source of ends said that the turns end before their count.
   pub served_to_end : done < count → says at true ended
-      → ServesOn IsStep gives given says old mid first then begun ended held before count (Ok Done)
+      → ServesOn IsStep Fits Refuses gives given says old mid first then begun ended held before count (Ok Done)
   served_to_end few due = record {
     serves = record {
       batches = served.batches;
@@ -242,7 +293,8 @@ module _ {S D E : Type 0} (IsStep : S → DatedBatch → S → Type 0)
       few = omega (arith, served.many, few);
       shows = served.written;
     };
-    days = served.days;
+    days = days_done gives (Refuses mid) given (days_of served.batches) first then served.days;
+    fit = served.fit;
     ends = (
       noes served.batches ++ true ∷ [],
       gives_more says begun (noes served.batches) at ended true served.asked due,
@@ -250,11 +302,13 @@ module _ {S D E : Type 0} (IsStep : S → DatedBatch → S → Type 0)
     );
   }
 
+  -- The source gave no day, or one that is refused.
   pub served_to_no_day : (result : Result JobStatus WriteFault) → done < count
-      → says at false ended → IsTaken gives given None then last
+      → says at false ended → ¬ (given ≢ None)
+      → (answer : Option ℕ) × IsTaken gives given answer then last × IsNoDay (Refuses mid) answer
       → IfOk result (λ status. (status ≡ Failed) × Appends before now (codes "clock\n"))
-      → ServesOn IsStep gives given says old mid first last begun ended held now count result
-  served_to_no_day (Ok Failed) few onward taken (is, line) = record {
+      → ServesOn IsStep Fits Refuses gives given says old mid first last begun ended held now count result
+  served_to_no_day (Ok Failed) few onward read (answer, taken, none) (is, line) = record {
     serves = record {
       batches = served.batches;
       lead = served.lead;
@@ -266,25 +320,27 @@ module _ {S D E : Type 0} (IsStep : S → DatedBatch → S → Type 0)
             served.written line,
       );
     };
-    days = days_end gives given (days_of served.batches) first then last (Ok Failed) served.days
-        taken is;
+    days = days_end gives (Refuses mid) given answer (days_of served.batches) first then last
+        (Ok Failed) read served.days taken none is;
+    fit = served.fit;
     ends = (
       noes served.batches ++ false ∷ [],
       gives_more says begun (noes served.batches) at ended false served.asked onward,
       refl,
     );
   }
-  served_to_no_day (Ok Done) few onward taken (is, line) = absurd cc
-  served_to_no_day (Ok status) few onward taken (is, line) = absurd cc
-  served_to_no_day (Err fault) few onward taken unsaid = record {
+  served_to_no_day (Ok Done) few onward read asked (is, line) = absurd cc
+  served_to_no_day (Ok status) few onward read asked (is, line) = absurd cc
+  served_to_no_day (Err fault) few onward read (answer, taken, none) unsaid = record {
     serves = record {
       batches = served.batches;
       lead = served.lead;
       few = omega (arith, served.many, few);
       shows = tt;
     };
-    days = days_end gives given (days_of served.batches) first then last (Err fault) served.days
-        taken tt;
+    days = days_end gives (Refuses mid) given answer (days_of served.batches) first then last
+        (Err fault) read served.days taken none tt;
+    fit = served.fit;
     ends = (
       noes served.batches ++ false ∷ [],
       gives_more says begun (noes served.batches) at ended false served.asked onward,
@@ -300,17 +356,20 @@ pub as_one : {B D E : Type 0} (faults : B → Faults) (honest : B → Type 0) (t
     → ((book : B) → honest book → Grows (committed book) (history book))
     → ((book : B) → honest book → (found : Option (List Entry)) → may_find book found
     → found ≡ Some (committed book))
-    → (gives : D → Option ℕ → D → Type 0) (given : Option ℕ) (says : E → Bool → E → Type 0)
-    (old new : Trace × B) (first last : D) (begun ended : E) (held now : Option (List ℕ)) (count : ℕ)
+    → (gives : D → Option ℕ → D → Type 0) (options : TurnOptions) (says : E → Bool → E → Type 0)
+    (old new : Trace × B) (first last : D) (begun ended : E) (held now : Option (List ℕ))
     (result : Result JobStatus WriteFault)
-    → ServesOn (IsBatch faults honest terms history committed clean may_find) gives given says old
-    new first last begun ended held now count result
-    → ServesTurns faults honest terms history committed clean may_find gives given says old new first
-    last begun ended held now count result
-as_one faults honest terms history committed clean may_find legal first_law found gives given says
-    old new first last begun ended held now count result on = record {
+    → ServesOn (IsBatch faults honest terms history committed clean may_find)
+    (λ (s : Trace × B) day. IsServedDay honest history (guard_of options) s.1 day)
+    (λ (s : Trace × B) day. IsRefusedDay honest history (guard_of options) s.1 day) gives options.day
+    says old new first last begun ended held now options.count result
+    → ServesTurns faults honest terms history committed clean may_find gives options says old new
+    first last begun ended held now result
+as_one faults honest terms history committed clean may_find legal first_law found gives options says
+    old new first last begun ended held now result on = record {
       serves = on.serves;
       days = on.days;
+      guarded = on.fit;
       ends = on.ends;
       composed = all_composed faults honest terms history committed clean may_find legal old new
           on.serves.batches on.serves.lead;

@@ -13,6 +13,7 @@ pub mod Questions
 pub mod Reporting
 pub mod Serving
 pub mod Days
+pub mod DayGuard
 pub mod Ending
 pub mod Unbound
 pub mod Questioning

@@ -1,5 +1,5 @@
 -- The turns of a server on a link, in batches one after another.
-use Rattle.std.specs.Prelude.{ℕ, ◌<◌, ◌≤◌, Bool, List, ◌++◌, length, codes, Option, Result}
+use Rattle.std.specs.Prelude.{◌≡◌, ℕ, ◌<◌, ◌≤◌, Bool, List, [], ◌∷◌, ◌++◌, length, codes, Option, Result}
 use Rattle.std.specs.Prelude.{IfOk}
 use Rattle.std.specs.List.{flat_map}
 use Rattle.std.specs.Io.KnownBytes.{Appends}
@@ -14,7 +14,9 @@ use Rattle.s10_ends.specs.Composed.{deliveries_in, answers_in, ServesAll, Surviv
 use Rattle.s10_jobs.specs.declared.job_status.JobStatus.{JobStatus}
 use Rattle.s10_jobs.specs.declared.job_status.JobStatus.TheVariants.{Done, Refused, CommandLine}
 use Rattle.s10_jobs.specs.declared.job_status.JobStatus.TheVariants.{Failed}
+use Rattle.s10_jobs.specs.declared.turn_options.TurnOptions.{TurnOptions}
 use Rattle.s10_jobs.specs.Days.{AreTaken}
+use Rattle.s10_jobs.specs.DayGuard.{guard_of, IsRefusedDay, IsServedDay}
 use Rattle.s10_jobs.specs.Ending.{AreEnded}
 use Rattle.s10_jobs.specs.TurnLines.{turn_line}
 
@@ -36,21 +38,35 @@ pub record Serves {S : Type 0} (IsStep : S → DatedBatch → S → Type 0) (old
   pub few : length (turns_in batches) ≤ count
   pub shows : IfOk result (PrintsTurns held now (turns_in batches) count)
 
+-- The day of each batch fits the state in which the batch began.
+unfoldable pub DaysFit : {S : Type 0} (IsStep : S → DatedBatch → S → Type 0)
+    (Fits : S → ℕ → Type 0) (old new : S) (batches : List DatedBatch)
+    → BatchesLead IsStep old batches new → Type 0
+unfolding BatchesLead
+DaysFit IsStep Fits old new [] lead = Unit {0}
+DaysFit IsStep Fits old new (batch ∷ batches) (next, step, rest) = Fits old batch.day
+    × DaysFit IsStep Fits next new batches rest
+
 module _ {B : Type 0} (faults : B → Faults) (honest : B → Type 0) (terms : B → Terms)
     (history committed : B → List Entry) (clean : B → Type 0)
     (may_find : B → Option (List Entry) → Type 0) where
   -- The turns of a server, `count` of them unless a source of ends ends them, in batches on the given
-  -- day, or each on the next day that a source gives. If the book is honest after them, they give
-  -- what one run over all their datagrams gives. If it is clean after them and was honest after some
-  -- of them, an opening after a stop finds each call whose reply these sent.
-  pub record ServesTurns {D E : Type 0} (gives : D → Option ℕ → D → Type 0) (given : Option ℕ)
+  -- day, or each on the next day that a source gives. A day that the source gave and the guard refuses
+  -- is no day: no batch was served on it, and the turns ended. If the book is honest after them, they
+  -- give what one run over all their datagrams gives. If it is clean after them and was honest after
+  -- some of them, an opening after a stop finds each call whose reply these sent.
+  pub record ServesTurns {D E : Type 0} (gives : D → Option ℕ → D → Type 0) (options : TurnOptions)
       (says : E → Bool → E → Type 0) (old new : Trace × B) (before after : D) (begun ended : E)
-      (held now : Option (List ℕ)) (count : ℕ) (result : Result JobStatus WriteFault) : Type 0
+      (held now : Option (List ℕ)) (result : Result JobStatus WriteFault) : Type 0
     where
       pub serves : Serves (IsBatch faults honest terms history committed clean may_find) old new held
-          now count result
-      pub days : AreTaken gives given (days_of serves.batches) result before after
-      pub ends : AreEnded says serves.batches count result begun ended
+          now options.count result
+      pub days : AreTaken gives (IsRefusedDay honest history (guard_of options) new.1) options.day
+          (days_of serves.batches) result before after
+      pub guarded : DaysFit (IsBatch faults honest terms history committed clean may_find)
+          (λ (s : Trace × B) day. IsServedDay honest history (guard_of options) s.1 day) old new
+          serves.batches serves.lead
+      pub ends : AreEnded says serves.batches options.count result begun ended
       pub composed : honest new.1 → ServesAll faults honest terms history committed clean may_find
           old.1 new.1
           (deliveries_in faults honest terms history committed clean may_find old new serves.batches

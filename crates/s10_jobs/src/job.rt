@@ -3,6 +3,7 @@ use crate::noted_question::NotedQuestion;
 use crate::question::Question;
 use crate::report_kind::ReportKind;
 use crate::tries::Tries;
+use crate::turn_options::TurnOptions;
 use s10_history::Settings;
 
 /// A subcommand that needs files, sockets or the clock, with its texts as they were given.
@@ -15,12 +16,11 @@ pub enum Job<'a> {
         ledger: &'a str,
         settings: Settings,
     },
-    /// A server of a ledger, for `count` turns, or until the file `until` is there.
+    /// A server of a ledger, for the turns of the options, or until the file `until` is there.
     Serve {
         ledger: &'a str,
         bind: &'a str,
-        count: u32,
-        day: Option<u32>,
+        options: TurnOptions,
         until: Option<&'a str>,
     },
     /// A call of a server: `grant`, `draw`, `void`, `query` or `withdraw`.

@@ -11,6 +11,7 @@ use crate::days::Days;
 use crate::ending::Ending;
 use crate::failures::fail_by_link;
 use crate::job_status::JobStatus;
+use crate::turn_options::TurnOptions;
 use crate::turns::serve_turns;
 use s10_book::{GroupCommit, LastFailure};
 use s10_ends::Server;
@@ -21,12 +22,12 @@ use std::io::Write;
 use std::net::Net;
 use std::time::Clock;
 
-/// Serves `count` turns of a book at an address, or fewer if the source of ends says so, and returns
-/// the status and the book.
+/// Serves the turns of the options over a book at an address, or fewer if the source of ends says so,
+/// and returns the status and the book.
 ///
 /// Also returns the link, or `None` if the address cannot be bound. Standard error has the address
 /// that is served, or the reason why it cannot be bound. If no day is given, each batch takes the
-/// next day of the source.
+/// next day of the source, unless it is further past the last day of the book than the options allow.
 ///
 /// # Errors
 ///
@@ -38,8 +39,7 @@ pub fn serve_at<R, B, D, E, W>(
     book: B,
     days: &mut D,
     ends: &mut E,
-    count: u32,
-    day: Option<u32>,
+    options: TurnOptions,
     out: &mut W,
 ) -> (Result<JobStatus, WriteFault>, Option<UdpLink>, B)
 where
@@ -52,8 +52,8 @@ where
         (W.contents out.new) result.0 × (days.new ≡ days.old) × (ends.new ≡ ends.old) }
     ensures served { IfSome result.1
         (λ link. ServesTurns B.faults B.honest B.terms B.history B.committed B.clean B.may_find D.gives
-        day E.says (new_trace, book) (link.trace, result.2) days.old days.new ends.old ends.new
-        (W.contents out.old) (W.contents out.new) count result.0) }
+        options E.says (new_trace, book) (link.trace, result.2) days.old days.new ends.old ends.new
+        (W.contents out.old) (W.contents out.new) result.0) }
     ensures at { IfSome result.1 (λ link. IsBoundAt at link.at) }
 {
     let mut link = match bind_link(rt, at) {
@@ -62,17 +62,7 @@ where
     };
     eprint_address(rt, link.local());
     let mut server = Server::new(book);
-    let served = serve_turns(
-        rt,
-        alloc,
-        &mut server,
-        &mut link,
-        days,
-        ends,
-        count,
-        day,
-        out,
-    );
+    let served = serve_turns(rt, alloc, &mut server, &mut link, days, ends, options, out);
     (served, Some(link), server.into_book())
 }
 

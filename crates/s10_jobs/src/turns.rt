@@ -8,13 +8,15 @@ ghost use Rattle.s10_ends.specs.Server.{book_of};
 ghost use Rattle.s10_jobs.specs.TurnLines.{turn_line};
 ghost use Rattle.s10_jobs.specs.Serving.{ServesTurns};
 
-use crate::days::{Days, next_day};
+use crate::day_guard::day_of_batch;
+use crate::days::Days;
 use crate::drop_log::DropLog;
 use crate::ending::Ending;
 use crate::failure_log::FailureLog;
 use crate::failures::fail_by_clock;
 use crate::job_status::JobStatus;
 use crate::turn_line::write_turn;
+use crate::turn_options::TurnOptions;
 use s10_book::{GroupCommit, LastFailure, MAX_BATCH};
 use s10_ends::{Server, Turn, serve_batch, serve_batch_of_one};
 use s10_lines::WriteFault;
@@ -23,7 +25,7 @@ use std::alloc::Global;
 use std::io::Write;
 use std::time::Clock;
 
-/// Serves `count` turns in batches of up to 64 datagrams, and prints one line for each turn.
+/// Serves the turns of the options in batches of up to 64 datagrams, and prints one line for each turn.
 ///
 /// The calls of a batch are committed together if a reply is to a pending call. Then its replies are
 /// sent, and its lines are written and flushed. If a batch cannot be allocated, the server handles
@@ -37,8 +39,9 @@ use std::time::Clock;
 /// Before each batch the source of ends is asked once. If it says so, the turns end before their
 /// count, with the status `Done`. Calls may still be pending then: closing the book commits them.
 ///
-/// If no day is given, the source of days is asked once before each batch. If it gives no day, the
-/// turns end with the line `clock`. The status is `Done`, or `Failed` after `clock`.
+/// If no day is given, the source of days is asked once before each batch. If it gives no day, or one
+/// that is further past the last day of the book than the options allow, the turns end with the line
+/// `clock`. The status is `Done`, or `Failed` after `clock`.
 ///
 /// # Errors
 ///
@@ -51,8 +54,7 @@ pub fn serve_turns<R, B, L, D, E, W>(
     link: &mut L,
     days: &mut D,
     ends: &mut E,
-    count: u32,
-    day: Option<u32>,
+    options: TurnOptions,
     out: &mut W,
 ) -> Result<JobStatus, WriteFault>
 where
@@ -63,25 +65,25 @@ where
     E: Ending,
     W: Write,
     ensures turns { ServesTurns B.faults B.honest B.terms B.history B.committed B.clean B.may_find
-        D.gives day E.says
+        D.gives options E.says
         (L.trace_of link.old, book_of server.old) (L.trace_of link.new, book_of server.new)
-        days.old days.new ends.old ends.new (W.contents out.old) (W.contents out.new) count
+        days.old days.new ends.old ends.new (W.contents out.old) (W.contents out.new)
         result }
-    ensures given { day ≢ None → result ≢ Ok JobStatus.Failed }
+    ensures given { options.day ≢ None → result ≢ Ok JobStatus.Failed }
     ensures led { LeadsTo L.step link.old link.new }
 {
     let mut drops = DropLog::new(rt);
     let mut failures = FailureLog::new(rt);
     let mut done = 0;
-    while done < count {
+    while done < options.count {
         if ends.is_due() {
             drops.eprint_rest();
             return Ok(JobStatus::Done);
         }
-        let Some(today) = next_day(days, day) else {
+        let Some(today) = day_of_batch(rt, days, &options, server.book()) else {
             return fail_by_clock(out);
         };
-        let most = (count - done).min(MAX_BATCH);
+        let most = (options.count - done).min(MAX_BATCH);
         match serve_batch(alloc, server, link, today, most) {
             Ok(turns) => {
                 print_turns(&mut drops, &turns, out)?;

@@ -1,5 +1,6 @@
 //! Tests of jobs: calls, reports, turns and their lines.
 
+mod day_guard;
 mod each_line;
 mod many_lines;
 mod notes;

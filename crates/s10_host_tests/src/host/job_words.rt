@@ -23,7 +23,7 @@ const LINES: &[Line] = &[
     ),
     (
         "s10 serve --ledger a.db --bind 0.0.0.0:0",
-        r#"Some(Serve { ledger: "a.db", bind: "0.0.0.0:0", count: 4294967295, day: None, until: None })"#,
+        r#"Some(Serve { ledger: "a.db", bind: "0.0.0.0:0", options: TurnOptions { count: 4294967295, day: None, most_days_ahead: None }, until: None })"#,
     ),
     (
         "s10 grant --to 127.0.0.1:4711 --number 1 --holder 7 --service RA --country GB --first 0 --last 2",
@@ -145,7 +145,7 @@ const OPTIONS: &[Line] = &[
     ),
     (
         "s10 serve --day 4294967295 --count=4294967295 --bind '' --ledger ''",
-        r#"Some(Serve { ledger: "", bind: "", count: 4294967295, day: Some(4294967295), until: None })"#,
+        r#"Some(Serve { ledger: "", bind: "", options: TurnOptions { count: 4294967295, day: Some(4294967295), most_days_ahead: None }, until: None })"#,
     ),
     (
         "s10 draw --notes a.notes --to 127.0.0.1:4711 --service RA --country GB --tries 2",
@@ -156,8 +156,12 @@ const OPTIONS: &[Line] = &[
         r#"Some(AskByNotes(NotedQuestion { to: "127.0.0.1:4711", notes: "post.notes", body: Grant { holder: 7, service: "RA", country: "GB", first: Serial { value: 0 }, last: Serial { value: 2 } }, tries: Tries { count: 5 } }))"#,
     ),
     (
+        "s10 serve --most-days-ahead 30 --bind 0.0.0.0:0 --ledger a.db",
+        r#"Some(Serve { ledger: "a.db", bind: "0.0.0.0:0", options: TurnOptions { count: 4294967295, day: None, most_days_ahead: Some(30) }, until: None })"#,
+    ),
+    (
         "s10 serve --until end --count 3 --bind 0.0.0.0:0 --ledger a.db",
-        r#"Some(Serve { ledger: "a.db", bind: "0.0.0.0:0", count: 3, day: None, until: Some("end") })"#,
+        r#"Some(Serve { ledger: "a.db", bind: "0.0.0.0:0", options: TurnOptions { count: 3, day: None, most_days_ahead: None }, until: Some("end") })"#,
     ),
     (
         "s10 report --day 0 --issues --ledger 'a b.db'",
@@ -480,6 +484,13 @@ const MORE: &[Reach] = &[
     (
         Serve,
         ONE_MORE,
+        "--most-days-ahead=0",
+        "most_days_ahead: None",
+        "most_days_ahead: Some(0)",
+    ),
+    (
+        Serve,
+        ONE_MORE,
         "--until=end",
         "until: None",
         r#"until: Some("end")"#,
@@ -620,6 +631,8 @@ const WRONG_OPTIONS: &[Edit] = &[
     (Serve, ONE_MORE, "--count=-1"),
     (Serve, ONE_MORE, "--count=1.5"),
     (Serve, ONE_MORE, "--day=4294967296"),
+    (Serve, ONE_MORE, "--most-days-ahead=4294967296"),
+    (Serve, ONE_MORE, "--most-days-ahead=-1"),
     (Report, ONE_MORE, "--day=4294967296"),
     (Loop, ONE_MORE, "--day=4294967296"),
 ];

@@ -2,7 +2,7 @@
 
 use s10_book::PlainBook;
 use s10_history::Settings;
-use s10_jobs::{AtCount, ClockDays, JobStatus, serve_at};
+use s10_jobs::{AtCount, ClockDays, JobStatus, TurnOptions, serve_at};
 use s10_lines::WriteFault;
 use s10_link::{Peer, UdpLink};
 use std::io::Write;
@@ -23,7 +23,11 @@ fn served_at<R: Net + Clock + Eprint + AllocGlobal, W: Write>(
 ) -> Result<JobStatus, WriteFault> {
     let book = PlainBook::new(rt.alloc(), Settings::new(30, 2).unwrap());
     let mut days = ClockDays { clock: rt };
-    let day = Some(20_000);
+    let options = TurnOptions {
+        count,
+        day: Some(20_000),
+        most_days_ahead: None,
+    };
     let mut ends = AtCount;
     let (served, _link, _book) = serve_at(
         rt,
@@ -32,8 +36,7 @@ fn served_at<R: Net + Clock + Eprint + AllocGlobal, W: Write>(
         book,
         &mut days,
         &mut ends,
-        count,
-        day,
+        options,
         out,
     );
     served

@@ -4,7 +4,9 @@ use crate::links::{Meets, link_of};
 use s10_book::{Book, GroupCommit, LastFailure, PlainBook, TripBook};
 use s10_ends::Server;
 use s10_history::Settings;
-use s10_jobs::{AtCount, ClockDays, Days, Ending, JobStatus, next_day, serve_turns, today};
+use s10_jobs::{
+    AtCount, ClockDays, Days, Ending, JobStatus, TurnOptions, next_day, serve_turns, today,
+};
 use s10_lines::WriteFault;
 use s10_link::{Link, Peer};
 use s10_test_help::datagrams::{DRAW, GRANT, SECOND_DRAW};
@@ -49,14 +51,14 @@ impl Eprint for Standing {
 /// A standard error that keeps what is printed to it. Each reading of the clock is `step` seconds
 /// after the one before, or fails if `step` is 0. The clock gives no day.
 #[derive(Drop)]
-struct Listening {
-    told: RefCell<Vec<u8>>,
+pub(crate) struct Listening {
+    pub(crate) told: RefCell<Vec<u8>>,
     seconds: Cell<u64>,
     step: u64,
 }
 
 impl Listening {
-    fn new(alloc: Global, step: u64) -> Listening {
+    pub(crate) fn new(alloc: Global, step: u64) -> Listening {
         Listening {
             told: RefCell::new(Vec::new(alloc)),
             seconds: Cell::new(0),
@@ -98,6 +100,15 @@ impl Eprint for Listening {
             Ok(mut told) => told.writeln(value),
             Err(_) => Err(io::Error::from(io::ErrorKind::Other)),
         }
+    }
+}
+
+/// Returns the options of `count` turns on this day, or on those of a clock.
+fn on(count: u32, day: Option<u32>) -> TurnOptions {
+    TurnOptions {
+        count,
+        day,
+        most_days_ahead: None,
     }
 }
 
@@ -211,8 +222,7 @@ fn are_as_expected<R: Clock + Eprint, B: GroupCommit + LastFailure, L: Link>(
         link,
         &mut days,
         &mut AtCount,
-        turns.count,
-        turns.day,
+        on(turns.count, turns.day),
         &mut out,
     );
     has_lines(out, turns) && served == Ok(turns.status)
@@ -416,8 +426,7 @@ fn is_shown_of_a_failure(alloc: Global, at: u64, told: &str) -> bool {
         &mut link,
         &mut days,
         &mut AtCount,
-        7,
-        Some(20_000),
+        on(7, Some(20_000)),
         &mut out,
     );
     served == Ok(JobStatus::Done) && rt.told.into_inner().as_slice() == told.as_bytes()
@@ -512,8 +521,7 @@ fn has_the_day_of_its_batch<R: Clock + Eprint>(rt: &R, alloc: Global) -> bool {
         &mut link,
         &mut days,
         &mut AtCount,
-        7,
-        None,
+        on(7, None),
         &mut out,
     );
     served == Ok(JobStatus::Done) && server.book().day() == 20_003 && days.next() == Some(20_004)
@@ -567,8 +575,7 @@ fn ends_at_batch<R: Clock + Eprint>(
         &mut link,
         &mut days,
         &mut ends,
-        7,
-        Some(20_000),
+        on(7, Some(20_000)),
         &mut out,
     );
     served == Ok(JobStatus::Done)
@@ -638,8 +645,7 @@ fn end_where_unwritten<R: Clock + Eprint, B: GroupCommit + LastFailure, L: Link>
         link,
         &mut days,
         &mut AtCount,
-        7,
-        Some(20_000),
+        on(7, Some(20_000)),
         &mut out,
     );
     has_beginning(out, room) && served == Err(WriteFault)

@@ -1,8 +1,9 @@
-use Rattle.std.proofs.Common.{◌≡◌, ◌≢◌, ℕ, refl, [], Option, None, Ok}
+use Rattle.std.proofs.Common.{◌≡◌, ◌≢◌, refl, [], None, Ok}
 use Rattle.s10_history.specs.Settings.{Terms}
 use Rattle.s10_link.specs.declared.peer.Peer.{Peer}
 use Rattle.s10_link.specs.UdpLink.{BoundLink, IsBoundAt}
 use Rattle.s10_jobs.specs.declared.job_status.JobStatus.TheVariants.{Done}
+use Rattle.s10_jobs.specs.declared.turn_options.TurnOptions.{TurnOptions}
 use Rattle.s10_jobs.specs.declared.reporting.Report.{Report}
 use Rattle.s10_host.specs.declared.ledger_job.LedgerJob.TheVariants.{Create, Serve, Report as ReportOn, Audit}
 use Rattle.s10_host.proofs.Opening.{none_pending, opened_for, bound_served}
@@ -12,8 +13,8 @@ use Rattle.s10_host.proofs.over_store.run_over_store.Goals as goal
 create_not_audit : (terms : Terms) → Create terms ≢ Audit
 create_not_audit terms is = absurd cc
 
-serve_not_audit : (at : Peer) (count : ℕ) (day : Option ℕ) → Serve at count day ≢ Audit
-serve_not_audit at count day is = absurd cc
+serve_not_audit : (at : Peer) (options : TurnOptions) → Serve at options ≢ Audit
+serve_not_audit at options is = absurd cc
 
 report_not_audit : (report : Report) → ReportOn report ≢ Audit
 report_not_audit report is = absurd cc
@@ -62,7 +63,7 @@ returns-in_ok-book-in-Serve-clause-worked g c done link ledger is =
     let at : c.serve_at-done.result.1 ≡ link = cc in
     let same : c.close-in-Serve.result ≡ ledger = cc in
     rw (c.in-Serve.is, ← same, ← status, ← at) (
-      serve_not_audit c.in-Serve.at c.in-Serve.count c.in-Serve.day,
+      serve_not_audit c.in-Serve.at c.in-Serve.options,
       (
         book,
         opened_for g.A.Store c.args.connection book found.opened found.honest found.found found.same

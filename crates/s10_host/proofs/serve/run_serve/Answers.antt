@@ -7,8 +7,8 @@ use Rattle.s10_host.proofs.serve.run_serve.Goals as goal
 
 pub returns-in_default : goal.returns-in_default
 returns-in_default g c =
-    no_peer _ g.S.Start g.D.Days.gives c.args.bind.now c.as_bytes.result.now c.args.day _ _
-    c.args.count (is_some c.args.until) (g.W.Write.contents c.args.out.now)
+    no_peer _ g.S.Start g.D.Days.gives c.args.bind.now c.as_bytes.result.now c.args.options _ _
+    (is_some c.args.until) (g.W.Write.contents c.args.out.now)
     (g.W.Write.contents c.refuse.new.out)
     c.refuse.result c.refuse.result _ _
     c.read.result c.in_default.is c.read.ensures.read c.as_bytes.ensures.value c.refuse.ensures
@@ -16,7 +16,7 @@ returns-in_default g c =
 
 pub returns-then-is_there : goal.returns-then-is_there
 returns-then-is_there g c =
-    until_there _ g.S.Start g.D.Days.gives c.args.bind.now c.in-Some.at c.args.day _ _ c.args.count
+    until_there _ g.S.Start g.D.Days.gives c.args.bind.now c.in-Some.at c.args.options _ _
     (is_some c.args.until) (g.W.Write.contents c.args.out.now)
     (g.W.Write.contents c.refuse-then-is_there.new.out) c.refuse-then-is_there.result _ _
     (subst (λ text. SpellsPeer text c.in-Some.at) c.as_bytes.ensures.value
@@ -26,7 +26,7 @@ returns-then-is_there g c =
 pub returns-in-Err : goal.returns-in-Err
 returns-in-Err g c =
     let ended = c.not_connected.result in
-    not_served _ g.S.Start g.D.Days.gives c.args.bind.now c.in-Some.at c.args.day _ _ c.args.count
+    not_served _ g.S.Start g.D.Days.gives c.args.bind.now c.in-Some.at c.args.options _ _
     (is_some c.args.until) c.in-Err.fault (g.W.Write.contents c.args.out.now)
     (g.W.Write.contents c.not_connected.new.out)
     ended.done (files_in ended.resources) (link_in ended.resources)
@@ -37,8 +37,8 @@ returns-in-Err g c =
 pub returns-in-Ok-connect_to_ledger : goal.returns-in-Ok-connect_to_ledger
 returns-in-Ok-connect_to_ledger g c =
     let ended = c.run_on_file.result in
-    served_until _ g.S.Start g.D.Days.gives c.args.bind.now c.in-Some.at c.args.day _ _
-    c.args.count c.new-ends.result (is_some c.args.until) c.run_on_file.new.ends
+    served_until _ g.S.Start g.D.Days.gives c.args.bind.now c.in-Some.at c.args.options _ _
+    c.new-ends.result (is_some c.args.until) c.run_on_file.new.ends
     c.in-Ok-connect_to_ledger.connection (g.W.Write.contents c.args.out.now)
     (g.W.Write.contents c.run_on_file.new.out) ended.done (files_in ended.resources)
     (link_in ended.resources) c.new-ends.ensures
@@ -50,7 +50,7 @@ pub returns : goal.returns
 returns g c =
     let failed = c.not_connected-in-Err-connect_to_ledger in
     let ended = failed.result in
-    not_served _ g.S.Start g.D.Days.gives c.args.bind.now c.in-Some.at c.args.day _ _ c.args.count
+    not_served _ g.S.Start g.D.Days.gives c.args.bind.now c.in-Some.at c.args.options _ _
     (is_some c.args.until) c.in-Err-connect_to_ledger.fault (g.W.Write.contents c.args.out.now)
     (g.W.Write.contents failed.new.out) ended.done (files_in ended.resources)
     (link_in ended.resources)

@@ -1,18 +1,17 @@
-use Rattle.std.proofs.Common.{rules, ◌≡◌, ◌≤◌, ◌<◌, ◌+◌, ℕ, [], ◌∷◌, length, arith, subst, ◌∙◌, Option}
+use Rattle.std.proofs.Common.{rules, ◌≡◌, ◌≤◌, ◌<◌, ◌+◌, ℕ, [], ◌∷◌, length, arith, subst, ◌∙◌, Option, Some, None}
 use Rattle.std.specs.Prelude.{Bool}
 use Rattle.s10_link.specs.Link.LeadsTo.{none}
 use Rattle.s10_link.proofs.Led.{led_on}
 use Rattle.s10_ends.specs.Composed.{IsBatch}
-use Rattle.s10_jobs.specs.Days.{IsTaken}
-use Rattle.s10_jobs.proofs.Turning.{none_served, batch_served, batch_unprinted}
-use Rattle.s10_jobs.proofs.Turning.{all_served, served_to_end, served_to_no_day, as_one}
+use Rattle.s10_jobs.proofs.Turning.{none_served, batch_served, batch_unprinted, next_as}
+use Rattle.s10_jobs.proofs.Turning.{all_served, served_to_end, served_to_no_day, none_is_none, as_one}
 use Rattle.s10_jobs.proofs.turns.serve_turns.Goals.{in-Ok+in_ok-print_turns-in-Ok, in-Err+in_ok-print_turns-in-Err}
 use Rattle.s10_jobs.proofs.turns.serve_turns.Goals as goal
 
 pub loop-done-init : goal.loop-done-init
 loop-done-init g c = record {
   few = omega arith;
-  served = none_served _ g.D.Days.gives c.args.day g.E.Ending.says
+  served = none_served _ _ g.D.Days.gives c.args.options.day g.E.Ending.says
       (g.L.Link.trace_of c.args.link.now, c.args.server.now.book) c.args.days.now c.args.ends.now
       (g.W.Write.contents c.args.out.now);
   led = none;
@@ -32,28 +31,33 @@ fits_in done count most turns room few = omega (arith, room, few)
 
 pub returns-in_err-print_turns-in-Ok-clause-turns : goal.returns-in_err-print_turns-in-Ok-clause-turns
 returns-in_err-print_turns-in-Ok-clause-turns g c =
+    let next = next_as g.B.Book.honest g.B.Book.history g.D.Days.gives c.args.options
+    c.book.result.now c.loop-done.server.book c.day_of_batch.result (Some c.in-Some.today)
+    c.loop-done.days c.day_of_batch.new.days c.book.ensures c.in-Some.is c.day_of_batch.ensures.next in
     as_one _ _ _ _ _ _ _ g.met.B.Book.legal g.met.B.Book.first g.met.B.Book.found g.D.Days.gives
-    c.args.day g.E.Ending.says _ _ _ _ _ _ _ _ _ _
-    (batch_unprinted _ g.D.Days.gives c.args.day g.E.Ending.says _ _ _ _ _ _ _ _ _ _ _ _
-    c.loop-done.done c.args.count
+    c.args.options g.E.Ending.says _ _ _ _ _ _ _ _ _
+    (batch_unprinted _ _ _ g.D.Days.gives c.args.options.day g.E.Ending.says _ _ _ _ _ _ _ _ _ _ _ _
+    c.loop-done.done c.args.options.count
     c.loop-done.invariant.served
     (record { day = c.in-Some.today; turns = c.in-Ok.turns.items }) c.from_residual.result _
     c.from_residual.ensures.1
     (subst (λ (b : Bool). g.E.Ending.says c.loop-done.ends b c.is_due.new.self) c.if-is_due.false
     c.is_due.ensures)
     (c.min-most.result, c.in-Ok.ensures.served)
-    (subst (λ (d : Option ℕ). IsTaken g.D.Days.gives c.args.day d c.loop-done.days
-    c.next_day.new.days) c.in-Some.is c.next_day.ensures)
-    (fits_in c.loop-done.done c.args.count c.min-most.result (length c.in-Ok.turns.items)
+    next.0 next.1
+    (fits_in c.loop-done.done c.args.options.count c.min-most.result (length c.in-Ok.turns.items)
     (let few = c.min-most.ensures in let test = c.loop-done-test.true in grind arith)
     c.in-Ok.ensures.few))
 
 pub returns-in_err-print_turns-in-Err-clause-turns : goal.returns-in_err-print_turns-in-Err-clause-turns
 returns-in_err-print_turns-in-Err-clause-turns g c =
+    let next = next_as g.B.Book.honest g.B.Book.history g.D.Days.gives c.args.options
+    c.book.result.now c.loop-done.server.book c.day_of_batch.result (Some c.in-Some.today)
+    c.loop-done.days c.day_of_batch.new.days c.book.ensures c.in-Some.is c.day_of_batch.ensures.next in
     as_one _ _ _ _ _ _ _ g.met.B.Book.legal g.met.B.Book.first g.met.B.Book.found g.D.Days.gives
-    c.args.day g.E.Ending.says _ _ _ _ _ _ _ _ _ _
-    (batch_unprinted _ g.D.Days.gives c.args.day g.E.Ending.says _ _ _ _ _ _ _ _ _ _ _ _
-    c.loop-done.done c.args.count
+    c.args.options g.E.Ending.says _ _ _ _ _ _ _ _ _
+    (batch_unprinted _ _ _ g.D.Days.gives c.args.options.day g.E.Ending.says _ _ _ _ _ _ _ _ _ _ _ _
+    c.loop-done.done c.args.options.count
     c.loop-done.invariant.served
     (record { day = c.in-Some.today; turns = c.serve_batch_of_one-turn.result ∷ [] })
     c.from_residual-in_err-print_turns-in-Err.result _
@@ -67,9 +71,8 @@ returns-in_err-print_turns-in-Err-clause-turns g c =
       c.serve_batch_of_one-turn.new.server.book,
     )) _ _ _ _ c.in-Err.ensures.refused.0 c.in-Err.ensures.refused.1
     (1, c.serve_batch_of_one-turn.ensures.served))
-    (subst (λ (d : Option ℕ). IsTaken g.D.Days.gives c.args.day d c.loop-done.days
-    c.next_day.new.days) c.in-Some.is c.next_day.ensures)
-    (one_fits c.loop-done.done c.args.count c.loop-done-test.true))
+    next.0 next.1
+    (one_fits c.loop-done.done c.args.options.count c.loop-done-test.true))
 
 pub returns-in_err-print_turns-in-Ok-clause-led : goal.returns-in_err-print_turns-in-Ok-clause-led
 returns-in_err-print_turns-in-Ok-clause-led g c =
@@ -80,46 +83,48 @@ returns-in_err-print_turns-in-Err-clause-led g c =
     led_on c.loop-done.invariant.led (led_on c.in-Err.ensures.led c.serve_batch_of_one-turn.ensures.led)
 
 pub loop-done-preserved : goal.loop-done-preserved
-loop-done-preserved g c = elim c.match-serve_batch.branch [
-  | in-Ok+in_ok-print_turns-in-Ok w ↦
-      let many : w.len.result ≡ length w.in-Ok.turns.items = w.len.ensures ∙ w.in-Ok.turns.ok.0 in
-      rw (w.done-is, w.out-is, w.link-is, w.server-is, many) (record {
-        few = fits_in c.loop-done.done c.args.count c.min-most.result (length w.in-Ok.turns.items)
-            (let few = c.min-most.ensures in let test = c.loop-done-test.true in grind arith)
-            w.in-Ok.ensures.few;
-        served = batch_served _ g.D.Days.gives c.args.day g.E.Ending.says _ _ _ _ _ _ _ _ _ _ _ _
-            c.loop-done.done c.args.count c.loop-done.invariant.served
-            (record { day = c.in-Some.today; turns = w.in-Ok.turns.items })
-            (subst (λ (b : Bool). g.E.Ending.says c.loop-done.ends b c.is_due.new.self) c.if-is_due.false
-            c.is_due.ensures)
-            (c.min-most.result, w.in-Ok.ensures.served)
-            (subst (λ (d : Option ℕ). IsTaken g.D.Days.gives c.args.day d c.loop-done.days
-            c.next_day.new.days) c.in-Some.is c.next_day.ensures)
-            (rw (← w.deref.ensures.value) w.in_ok-print_turns-in-Ok.ensures);
-        led = led_on c.loop-done.invariant.led w.in-Ok.ensures.led;
-      })
-  | in-Err+in_ok-print_turns-in-Err w ↦
-      rw (w.done-is, w.out-is, w.link-is, w.server-is) (record {
-        few = one_fits c.loop-done.done c.args.count c.loop-done-test.true;
-        served = batch_served _ g.D.Days.gives c.args.day g.E.Ending.says _ _ _ _ _ _ _ _ _ _ _ _
-            c.loop-done.done c.args.count c.loop-done.invariant.served
-            (record { day = c.in-Some.today; turns = w.serve_batch_of_one-turn.result ∷ [] })
-            (subst (λ (b : Bool). g.E.Ending.says c.loop-done.ends b c.is_due.new.self) c.if-is_due.false
-            c.is_due.ensures)
-            (begun_alike (λ at. IsBatch g.B.Book.faults g.B.Book.honest g.B.Book.terms
-            g.B.Book.history g.B.Book.committed g.B.Book.clean g.B.Book.may_find at
-            (record { day = c.in-Some.today; turns = w.serve_batch_of_one-turn.result ∷ [] }) (
-              g.L.Link.trace_of w.serve_batch_of_one-turn.new.link,
-              w.serve_batch_of_one-turn.new.server.book,
-            )) _ _ _ _ w.in-Err.ensures.refused.0 w.in-Err.ensures.refused.1
-            (1, w.serve_batch_of_one-turn.ensures.served))
-            (subst (λ (d : Option ℕ). IsTaken g.D.Days.gives c.args.day d c.loop-done.days
-            c.next_day.new.days) c.in-Some.is c.next_day.ensures)
-            w.in_ok-print_turns-in-Err.ensures;
-        led = led_on c.loop-done.invariant.led (led_on w.in-Err.ensures.led
-            w.serve_batch_of_one-turn.ensures.led);
-      })
-]
+loop-done-preserved g c =
+    let next = next_as g.B.Book.honest g.B.Book.history g.D.Days.gives c.args.options
+    c.book.result.now c.loop-done.server.book c.day_of_batch.result (Some c.in-Some.today)
+    c.loop-done.days c.day_of_batch.new.days c.book.ensures c.in-Some.is c.day_of_batch.ensures.next in
+    elim c.match-serve_batch.branch [
+      | in-Ok+in_ok-print_turns-in-Ok w ↦
+          let many : w.len.result ≡ length w.in-Ok.turns.items = w.len.ensures ∙ w.in-Ok.turns.ok.0 in
+          rw (w.done-is, w.out-is, w.link-is, w.server-is, many) (record {
+            few = fits_in c.loop-done.done c.args.options.count c.min-most.result (length w.in-Ok.turns.items)
+                (let few = c.min-most.ensures in let test = c.loop-done-test.true in grind arith)
+                w.in-Ok.ensures.few;
+            served = batch_served _ _ (λ s day. ⊥) g.D.Days.gives c.args.options.day g.E.Ending.says _ _ _ _ _ _ _ _ _ _ _ _
+                c.loop-done.done c.args.options.count c.loop-done.invariant.served
+                (record { day = c.in-Some.today; turns = w.in-Ok.turns.items })
+                (subst (λ (b : Bool). g.E.Ending.says c.loop-done.ends b c.is_due.new.self) c.if-is_due.false
+                c.is_due.ensures)
+                (c.min-most.result, w.in-Ok.ensures.served)
+                next.0 next.1
+                (rw (← w.deref.ensures.value) w.in_ok-print_turns-in-Ok.ensures);
+            led = led_on c.loop-done.invariant.led w.in-Ok.ensures.led;
+          })
+      | in-Err+in_ok-print_turns-in-Err w ↦
+          rw (w.done-is, w.out-is, w.link-is, w.server-is) (record {
+            few = one_fits c.loop-done.done c.args.options.count c.loop-done-test.true;
+            served = batch_served _ _ (λ s day. ⊥) g.D.Days.gives c.args.options.day g.E.Ending.says _ _ _ _ _ _ _ _ _ _ _ _
+                c.loop-done.done c.args.options.count c.loop-done.invariant.served
+                (record { day = c.in-Some.today; turns = w.serve_batch_of_one-turn.result ∷ [] })
+                (subst (λ (b : Bool). g.E.Ending.says c.loop-done.ends b c.is_due.new.self) c.if-is_due.false
+                c.is_due.ensures)
+                (begun_alike (λ at. IsBatch g.B.Book.faults g.B.Book.honest g.B.Book.terms
+                g.B.Book.history g.B.Book.committed g.B.Book.clean g.B.Book.may_find at
+                (record { day = c.in-Some.today; turns = w.serve_batch_of_one-turn.result ∷ [] }) (
+                  g.L.Link.trace_of w.serve_batch_of_one-turn.new.link,
+                  w.serve_batch_of_one-turn.new.server.book,
+                )) _ _ _ _ w.in-Err.ensures.refused.0 w.in-Err.ensures.refused.1
+                (1, w.serve_batch_of_one-turn.ensures.served))
+                next.0 next.1
+                w.in_ok-print_turns-in-Err.ensures;
+            led = led_on c.loop-done.invariant.led (led_on w.in-Err.ensures.led
+                w.serve_batch_of_one-turn.ensures.led);
+          })
+    ]
 
 pub overflow_add-done : goal.overflow_add-done
 overflow_add-done c = search rules
@@ -130,20 +135,20 @@ all_done done count few past = omega (arith, few, past)
 pub returns-clause-turns : goal.returns-clause-turns
 returns-clause-turns g c =
     as_one _ _ _ _ _ _ _ g.met.B.Book.legal g.met.B.Book.first g.met.B.Book.found g.D.Days.gives
-    c.args.day g.E.Ending.says _ _ _ _ _ _ _ _ c.args.count _
-    (all_served _ g.D.Days.gives c.args.day g.E.Ending.says _ _
+    c.args.options g.E.Ending.says _ _ _ _ _ _ _ _ _
+    (all_served _ _ _ g.D.Days.gives c.args.options.day g.E.Ending.says _ _
     (g.L.Link.trace_of c.loop-done.link, c.loop-done.server.book) _ _ c.loop-done.days _ _
-    c.loop-done.ends _ _ (g.W.Write.contents c.loop-done.out) c.loop-done.done c.args.count
+    c.loop-done.ends _ _ (g.W.Write.contents c.loop-done.out) c.loop-done.done c.args.options.count
     c.loop-done.invariant.served
-    (all_done c.loop-done.done c.args.count c.loop-done.invariant.few c.loop-done-test.false))
+    (all_done c.loop-done.done c.args.options.count c.loop-done.invariant.few c.loop-done-test.false))
 
 pub returns-then-is_due-clause-turns : goal.returns-then-is_due-clause-turns
 returns-then-is_due-clause-turns g c =
     as_one _ _ _ _ _ _ _ g.met.B.Book.legal g.met.B.Book.first g.met.B.Book.found g.D.Days.gives
-    c.args.day g.E.Ending.says _ _ _ _ _ _ _ _ c.args.count _
-    (served_to_end _ g.D.Days.gives c.args.day g.E.Ending.says _ _
+    c.args.options g.E.Ending.says _ _ _ _ _ _ _ _ _
+    (served_to_end _ _ _ g.D.Days.gives c.args.options.day g.E.Ending.says _ _
     (g.L.Link.trace_of c.loop-done.link, c.loop-done.server.book) _ _ c.loop-done.days _ _ _ _ _
-    (g.W.Write.contents c.loop-done.out) c.loop-done.done c.args.count
+    (g.W.Write.contents c.loop-done.out) c.loop-done.done c.args.options.count
     c.loop-done.invariant.served c.loop-done-test.true
     (subst (λ (b : Bool). g.E.Ending.says c.loop-done.ends b c.is_due.new.self) c.if-is_due.true
     c.is_due.ensures))
@@ -151,13 +156,15 @@ returns-then-is_due-clause-turns g c =
 pub returns-in_default-clause-turns : goal.returns-in_default-clause-turns
 returns-in_default-clause-turns g c =
     as_one _ _ _ _ _ _ _ g.met.B.Book.legal g.met.B.Book.first g.met.B.Book.found g.D.Days.gives
-    c.args.day g.E.Ending.says _ _ _ _ _ _ _ _ c.args.count _
-    (served_to_no_day _ g.D.Days.gives c.args.day g.E.Ending.says _ _
+    c.args.options g.E.Ending.says _ _ _ _ _ _ _ _ _
+    (served_to_no_day _ _ _ g.D.Days.gives c.args.options.day g.E.Ending.says _ _
     (g.L.Link.trace_of c.loop-done.link, c.loop-done.server.book) _ _ _ _ _ _ _ _ _
-    c.loop-done.done c.args.count
+    c.loop-done.done c.args.options.count
     c.loop-done.invariant.served c.fail_by_clock.result c.loop-done-test.true
     (subst (λ (b : Bool). g.E.Ending.says c.loop-done.ends b c.is_due.new.self) c.if-is_due.false
     c.is_due.ensures)
-    (subst (λ (d : Option ℕ). IsTaken g.D.Days.gives c.args.day d c.loop-done.days
-    c.next_day.new.days) c.in_default.is c.next_day.ensures)
+    (λ day. none_is_none c.day_of_batch.result c.in_default.is (c.day_of_batch.ensures.given day))
+    (next_as g.B.Book.honest g.B.Book.history g.D.Days.gives c.args.options c.book.result.now
+    c.loop-done.server.book c.day_of_batch.result None c.loop-done.days c.day_of_batch.new.days
+    c.book.ensures c.in_default.is c.day_of_batch.ensures.next)
     c.fail_by_clock.ensures)
