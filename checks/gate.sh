@@ -118,6 +118,7 @@ run_checks() {
     check killed_server_64 900 program sh "$checks/killed_server.sh" "$s10" 64
     check until 300 program sh "$checks/until.sh" "$s10"
     check killed_notes 900 'program python3' python3 "$checks/killed_notes.py" "$s10" 50
+    check days_ahead 300 program sh "$checks/days_ahead.sh" "$s10"
     check full_disk 1200 'program unshare mount' sh "$checks/full_disk.sh" "$s10"
     check trials 1800 'program sqlite3' sh "$checks/trials.sh" "$s10"
     check refused_program 1800 'program python3 cc' python3 "$checks/refused_program.py" "$s10" 211

@@ -88,4 +88,6 @@ came=$(unit S10_BIND=nowhere)
 [ "$came" = "$(printf 'refused peer\nstatus 1')" ] || fail "the unit prints $came at no address"
 came=$(unit S10_COUNT=none)
 [ "$came" = 'status 2' ] || fail "the unit prints $came without a count"
+came=$(unit S10_DAYS_AHEAD=none)
+[ "$came" = 'status 2' ] || fail "the unit prints $came without days"
 echo 'ok: the command of the unit'
