@@ -64,6 +64,7 @@ abbrev pub HasTurnOptions : List Row → TurnOptions → Type 0
 HasTurnOptions rows options = HasNumber rows (codes "count") options.count
     × Finds (HasNumber rows (codes "day")) options.day
     × Finds (HasNumber rows (codes "most-days-ahead")) options.most_days_ahead
+    × IsFlag rows (codes "senders") options.senders
 
 -- A serial, 0 to 99999999.
 abbrev pub HasSerial : List Row → List ℕ → ℕ → Type 0

@@ -3,7 +3,7 @@ ghost use Rattle.std.specs.Prelude.{codes};
 ghost use Rattle.s10_cli.specs.Options.{rows_in, Finds};
 ghost use Rattle.s10_cli.specs.Jobs.{AsksFor};
 
-use crate::option_values::{number_of, text_of};
+use crate::option_values::{flag_of, number_of, text_of};
 use clap::ArgMatches;
 use s10_jobs::{Job, TurnOptions};
 
@@ -21,6 +21,7 @@ pub fn serve_job<'a>(found: &ArgMatches<'a>) -> Option<Job<'a>>
             count: number_of(found, "count")?,
             day: number_of(found, "day"),
             most_days_ahead: number_of(found, "most-days-ahead"),
+            senders: flag_of(found, "senders"),
         },
         until: text_of(found, "until"),
     })

@@ -101,7 +101,8 @@ create_shape = says (codes "create") (a_text (codes "ledger") ∷ needed interva
 -- The subcommand `serve`.
 abbrev pub serve_shape : Shape
 serve_shape = says (codes "serve") (a_text (codes "ledger") ∷ a_text (codes "bind")
-    ∷ turn_count ∷ an_option (codes "until") ∷ day ∷ a_count (codes "most-days-ahead") ∷ [])
+    ∷ turn_count ∷ an_option (codes "until") ∷ day ∷ a_count (codes "most-days-ahead")
+    ∷ a_flag (codes "senders") ∷ [])
 
 -- The subcommand `grant`.
 abbrev pub grant_shape : Shape

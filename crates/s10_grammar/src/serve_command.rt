@@ -3,7 +3,7 @@ ghost use Rattle.std.specs.Prelude.{IfOk};
 ghost use Rattle.std.specs.Prelude.{codes};
 ghost use Rattle.s10_grammar.specs.Grammar.{Follows, ReadsAs, a_count, serve_shape, turn_count};
 
-use crate::builders::{named, option, text_option, with};
+use crate::builders::{flag, named, option, text_option, with};
 use crate::options::{day_option, ledger_option};
 use clap::{Arg, Command, value_parser};
 use std::alloc::{AllocError, Global};
@@ -49,7 +49,15 @@ pub fn serve_command<'a>(alloc: Global) -> Result<Command<'a>, AllocError>
             "The day of all requests; by default the clock's day, read before each batch",
         ),
     );
-    with(command, days_ahead_option(alloc))
+    let command = with(command, days_ahead_option(alloc));
+    with(
+        command,
+        flag(
+            alloc,
+            "senders",
+            "End the line of each datagram with its sender, as `from 10.0.0.7:40123`",
+        ),
+    )
 }
 
 fn turn_count_option<'a>(alloc: Global) -> Arg<'a>

@@ -176,7 +176,8 @@ next_as honest history gives options b book r answer old new same is next =
 -- n turns were served, and their lines written.
 pub record HasServed {S D E : Type 0} (IsStep : S → DatedBatch → S → Type 0)
     (Fits : S → ℕ → Type 0) (gives : D → Option ℕ → D → Type 0) (given : Option ℕ) (says : E → Bool → E → Type 0)
-    (old new : S) (first last : D) (begun ended : E) (held now : Option (List ℕ)) (done : ℕ) :
+    (old new : S) (first last : D) (begun ended : E) (senders : Bool) (held now : Option (List ℕ))
+    (done : ℕ) :
     Type 0 where
   pub batches : List DatedBatch
   pub lead : BatchesLead IsStep old batches new
@@ -184,24 +185,24 @@ pub record HasServed {S D E : Type 0} (IsStep : S → DatedBatch → S → Type 
   pub days : SoFar gives given (days_of batches) first last
   pub asked : GoesOn says batches begun ended
   pub many : length (turns_in batches) ≡ done
-  pub written : Appends held now (flat_map turn_line (turns_in batches))
+  pub written : Appends held now (flat_map (turn_line senders) (turns_in batches))
 
 -- Turns that were served, with the days that they took and how they ended.
 pub record ServesOn {S D E : Type 0} (IsStep : S → DatedBatch → S → Type 0)
     (Fits Refuses : S → ℕ → Type 0) (gives : D → Option ℕ → D → Type 0) (given : Option ℕ) (says : E → Bool → E → Type 0)
-    (old new : S) (first last : D) (begun ended : E) (held now : Option (List ℕ)) (count : ℕ)
-    (result : Result JobStatus WriteFault) : Type 0 where
-  pub serves : Serves IsStep old new held now count result
+    (old new : S) (first last : D) (begun ended : E) (senders : Bool) (held now : Option (List ℕ))
+    (count : ℕ) (result : Result JobStatus WriteFault) : Type 0 where
+  pub serves : Serves IsStep old new senders held now count result
   pub days : AreTaken gives (Refuses new) given (days_of serves.batches) result first last
   pub fit : DaysFit IsStep Fits old new serves.batches serves.lead
   pub ends : AreEnded says serves.batches count result begun ended
 
 pub none_served : {S D E : Type 0} (IsStep : S → DatedBatch → S → Type 0)
     (Fits : S → ℕ → Type 0) (gives : D → Option ℕ → D → Type 0) (given : Option ℕ) (says : E → Bool → E → Type 0) (s : S)
-    (first : D) (begun : E) (held : Option (List ℕ))
-    → HasServed IsStep Fits gives given says s s first first begun begun held held 0
+    (first : D) (begun : E) (senders : Bool) (held : Option (List ℕ))
+    → HasServed IsStep Fits gives given says s s first first begun begun senders held held 0
 unfolding BatchesLead
-none_served IsStep Fits gives given says s first begun held = record {
+none_served IsStep Fits gives given says s first begun senders held = record {
   batches = [];
   lead = refl;
   fit = none_fit IsStep Fits s refl;
@@ -214,13 +215,13 @@ none_served IsStep Fits gives given says s first begun held = record {
 module _ {S D E : Type 0} (IsStep : S → DatedBatch → S → Type 0)
     (Fits Refuses : S → ℕ → Type 0) (gives : D → Option ℕ → D → Type 0) (given : Option ℕ) (says : E → Bool → E → Type 0)
     (old mid new : S) (first then last : D) (begun at ended : E)
-    (held before now : Option (List ℕ)) (done count : ℕ)
-    (served : HasServed IsStep Fits gives given says old mid first then begun at held before done) where
+    (senders : Bool) (held before now : Option (List ℕ)) (done count : ℕ)
+    (served : HasServed IsStep Fits gives given says old mid first then begun at senders held before done) where
   -- One more batch, whose lines were written.
   pub batch_served : (batch : DatedBatch) → says at false ended → IsStep mid batch new
       → IsTaken gives given (Some batch.day) then last → Fits mid batch.day
-      → Appends before now (flat_map turn_line batch.turns)
-      → HasServed IsStep Fits gives given says old new first last begun ended held now
+      → Appends before now (flat_map (turn_line senders) batch.turns)
+      → HasServed IsStep Fits gives given says old new first last begun ended senders held now
       (done + length batch.turns)
   batch_served batch onward step taken fits lines = record {
     batches = served.batches ++ batch ∷ [];
@@ -231,10 +232,10 @@ module _ {S D E : Type 0} (IsStep : S → DatedBatch → S → Type 0)
     many = ap length (turns_more served.batches batch)
         ∙ omega (arith, length-append (turns_in served.batches) batch.turns, served.many);
     written = subst (λ l. Appends held now l)
-        (sym (ap (flat_map turn_line) (turns_more served.batches batch) ∙ flat_map-append turn_line
+        (sym (ap (flat_map (turn_line senders)) (turns_more served.batches batch) ∙ flat_map-append (turn_line senders)
         (turns_in served.batches) batch.turns))
-        (Appends-trans held before now (flat_map turn_line (turns_in served.batches))
-        (flat_map turn_line batch.turns) served.written lines);
+        (Appends-trans held before now (flat_map (turn_line senders) (turns_in served.batches))
+        (flat_map (turn_line senders) batch.turns) served.written lines);
   }
 
   -- One more batch, whose lines were not written.
@@ -243,7 +244,7 @@ module _ {S D E : Type 0} (IsStep : S → DatedBatch → S → Type 0)
       → IsStep mid batch new
       → IsTaken gives given (Some batch.day) then last → Fits mid batch.day
       → done + length batch.turns ≤ count
-      → ServesOn IsStep Fits Refuses gives given says old new first last begun ended held now count result
+      → ServesOn IsStep Fits Refuses gives given says old new first last begun ended senders held now count result
   batch_unprinted batch (Err fault) IsFault failed onward step taken fits room =
       record {
         serves = record {
@@ -270,7 +271,7 @@ module _ {S D E : Type 0} (IsStep : S → DatedBatch → S → Type 0)
   batch_unprinted batch (Ok status) IsFault failed onward step taken fits room = absurd failed
 
   pub all_served : done ≡ count
-      → ServesOn IsStep Fits Refuses gives given says old mid first then begun at held before count (Ok Done)
+      → ServesOn IsStep Fits Refuses gives given says old mid first then begun at senders held before count (Ok Done)
   all_served same = record {
     serves = record {
       batches = served.batches;
@@ -285,7 +286,7 @@ module _ {S D E : Type 0} (IsStep : S → DatedBatch → S → Type 0)
 
   -- The source of ends said that the turns end before their count.
   pub served_to_end : done < count → says at true ended
-      → ServesOn IsStep Fits Refuses gives given says old mid first then begun ended held before count (Ok Done)
+      → ServesOn IsStep Fits Refuses gives given says old mid first then begun ended senders held before count (Ok Done)
   served_to_end few due = record {
     serves = record {
       batches = served.batches;
@@ -307,7 +308,7 @@ module _ {S D E : Type 0} (IsStep : S → DatedBatch → S → Type 0)
       → says at false ended → ¬ (given ≢ None)
       → (answer : Option ℕ) × IsTaken gives given answer then last × IsNoDay (Refuses mid) answer
       → IfOk result (λ status. (status ≡ Failed) × Appends before now (codes "clock\n"))
-      → ServesOn IsStep Fits Refuses gives given says old mid first last begun ended held now count result
+      → ServesOn IsStep Fits Refuses gives given says old mid first last begun ended senders held now count result
   served_to_no_day (Ok Failed) few onward read (answer, taken, none) (is, line) = record {
     serves = record {
       batches = served.batches;
@@ -315,7 +316,7 @@ module _ {S D E : Type 0} (IsStep : S → DatedBatch → S → Type 0)
       few = omega (arith, served.many, few);
       shows = (
         omega (arith, served.many, few),
-        Appends-trans held before now (flat_map turn_line (turns_in served.batches))
+        Appends-trans held before now (flat_map (turn_line senders) (turns_in served.batches))
             (codes "clock\n")
             served.written line,
       );
@@ -362,7 +363,7 @@ pub as_one : {B D E : Type 0} (faults : B → Faults) (honest : B → Type 0) (t
     → ServesOn (IsBatch faults honest terms history committed clean may_find)
     (λ (s : Trace × B) day. IsServedDay honest history (guard_of options) s.1 day)
     (λ (s : Trace × B) day. IsRefusedDay honest history (guard_of options) s.1 day) gives options.day
-    says old new first last begun ended held now options.count result
+    says old new first last begun ended options.senders held now options.count result
     → ServesTurns faults honest terms history committed clean may_find gives options says old new
     first last begun ended held now result
 as_one faults honest terms history committed clean may_find legal first_law found gives options says

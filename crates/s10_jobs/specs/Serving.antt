@@ -20,23 +20,25 @@ use Rattle.s10_jobs.specs.DayGuard.{guard_of, IsRefusedDay, IsServedDay}
 use Rattle.s10_jobs.specs.Ending.{AreEnded}
 use Rattle.s10_jobs.specs.TurnLines.{turn_line}
 
--- The lines of all turns. If the source gave no day, there are fewer turns than `count`, then the
+-- The lines of all turns, with their senders or without. If the source gave no day, there are fewer turns than `count`, then the
 -- line `clock`.
-abbrev pub PrintsTurns : Option (List ℕ) → Option (List ℕ) → List Turn → ℕ → JobStatus → Type 0
-PrintsTurns held now turns count Done = Appends held now (flat_map turn_line turns)
-PrintsTurns held now turns count Refused = ⊥
-PrintsTurns held now turns count CommandLine = ⊥
-PrintsTurns held now turns count Failed = (length turns < count)
-    × Appends held now (flat_map turn_line turns ++ codes "clock\n")
+abbrev pub PrintsTurns : Bool → Option (List ℕ) → Option (List ℕ) → List Turn → ℕ → JobStatus
+    → Type 0
+PrintsTurns senders held now turns count Done = Appends held now (flat_map (turn_line senders) turns)
+PrintsTurns senders held now turns count Refused = ⊥
+PrintsTurns senders held now turns count CommandLine = ⊥
+PrintsTurns senders held now turns count Failed = (length turns < count)
+    × Appends held now (flat_map (turn_line senders) turns ++ codes "clock\n")
 
 -- At most `count` turns, in batches by such steps. Their lines were written unless the writer
 -- failed.
 pub record Serves {S : Type 0} (IsStep : S → DatedBatch → S → Type 0) (old new : S)
-    (held now : Option (List ℕ)) (count : ℕ) (result : Result JobStatus WriteFault) : Type 0 where
+    (senders : Bool) (held now : Option (List ℕ)) (count : ℕ) (result : Result JobStatus WriteFault) :
+    Type 0 where
   pub batches : List DatedBatch
   pub lead : BatchesLead IsStep old batches new
   pub few : length (turns_in batches) ≤ count
-  pub shows : IfOk result (PrintsTurns held now (turns_in batches) count)
+  pub shows : IfOk result (PrintsTurns senders held now (turns_in batches) count)
 
 -- The day of each batch fits the state in which the batch began.
 unfoldable pub DaysFit : {S : Type 0} (IsStep : S → DatedBatch → S → Type 0)
@@ -59,8 +61,8 @@ module _ {B : Type 0} (faults : B → Faults) (honest : B → Type 0) (terms : B
       (says : E → Bool → E → Type 0) (old new : Trace × B) (before after : D) (begun ended : E)
       (held now : Option (List ℕ)) (result : Result JobStatus WriteFault) : Type 0
     where
-      pub serves : Serves (IsBatch faults honest terms history committed clean may_find) old new held
-          now options.count result
+      pub serves : Serves (IsBatch faults honest terms history committed clean may_find) old new
+          options.senders held now options.count result
       pub days : AreTaken gives (IsRefusedDay honest history (guard_of options) new.1) options.day
           (days_of serves.batches) result before after
       pub guarded : DaysFit (IsBatch faults honest terms history committed clean may_find)

@@ -38,6 +38,19 @@ pub fn write_hex<W: Write>(frame: &Frame, out: &mut W) -> Result<(), WriteFault>
     ensures { OnOk result (Appends (W.contents out.old) (W.contents out.new) (encode_lower frame.now
         ++ codes "\n")) }
 {
+    write_digits(frame, out)?;
+    write_text(b"\n", out)
+}
+
+/// Writes a frame in lower-case hex.
+///
+/// # Errors
+///
+/// `WriteFault` if the writer fails; part of it may be written.
+pub fn write_digits<W: Write>(frame: &Frame, out: &mut W) -> Result<(), WriteFault>
+    ensures { OnOk result (Appends (W.contents out.old) (W.contents out.new)
+        (encode_lower frame.now)) }
+{
     // A frame has at most 256 bytes, and a byte two digits.
     let mut room = [0u8; 512];
     let text = &mut room[..2 * frame.bytes().len()];
@@ -45,8 +58,7 @@ pub fn write_hex<W: Write>(frame: &Frame, out: &mut W) -> Result<(), WriteFault>
         Ok(()) => {}
         Err(_) => unreachable!(),
     }
-    write_text(text, out)?;
-    write_text(b"\n", out)
+    write_text(text, out)
 }
 
 /// Writes the line of bytes that are not a request: `dropped` and the fault.

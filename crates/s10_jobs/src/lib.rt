@@ -39,6 +39,7 @@ mod refusals;
 mod replaying;
 mod report_kind;
 mod reporting;
+mod sender_words;
 mod serving;
 mod showing;
 mod tries;

@@ -1,6 +1,6 @@
 //! The options of the turns of a server.
 
-/// How many turns a server serves, and on which days.
+/// How many turns a server serves, on which days, and how it prints them.
 #[derive(Clone, Copy, Debug, PartialEq, Eq)]
 pub struct TurnOptions {
     /// The number of turns.
@@ -10,6 +10,8 @@ pub struct TurnOptions {
     /// The most days that a day of the source may be past the last day of the ledger, or `None` if
     /// it may be any. A given day is not held to it.
     pub most_days_ahead: Option<u32>,
+    /// Whether the lines name the senders of the datagrams.
+    pub senders: bool,
 }
 
 impl TurnOptions {

@@ -86,12 +86,12 @@ where
         let most = (options.count - done).min(MAX_BATCH);
         match serve_batch(alloc, server, link, today, most) {
             Ok(turns) => {
-                print_turns(&mut drops, &turns, out)?;
+                print_turns(&mut drops, &turns, options.senders, out)?;
                 done += turns.len() as u32;
             }
             Err(_) => {
                 let turn = serve_batch_of_one(server, link, today);
-                print_turns(&mut drops, &[turn], out)?;
+                print_turns(&mut drops, &[turn], options.senders, out)?;
                 done += 1;
             }
         }
@@ -105,14 +105,15 @@ where
 fn print_turns<R: Clock + Eprint, W: Write>(
     drops: &mut DropLog<'_, R>,
     turns: &[Turn],
+    senders: bool,
     out: &mut W,
 ) -> Result<(), WriteFault>
     ensures { OnOk result (Appends (W.contents out.old) (W.contents out.new)
-        (flat_map turn_line turns.now)) }
+        (flat_map (turn_line senders) turns.now)) }
 {
     for turn in turns {
         drops.count(turn);
-        write_turn(turn, out)?;
+        write_turn(turn, senders, out)?;
     }
     drops.eprint_if_due();
     let Ok(()) = out.flush() else {

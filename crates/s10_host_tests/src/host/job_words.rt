@@ -23,7 +23,7 @@ const LINES: &[Line] = &[
     ),
     (
         "s10 serve --ledger a.db --bind 0.0.0.0:0",
-        r#"Some(Serve { ledger: "a.db", bind: "0.0.0.0:0", options: TurnOptions { count: 4294967295, day: None, most_days_ahead: None }, until: None })"#,
+        r#"Some(Serve { ledger: "a.db", bind: "0.0.0.0:0", options: TurnOptions { count: 4294967295, day: None, most_days_ahead: None, senders: false }, until: None })"#,
     ),
     (
         "s10 grant --to 127.0.0.1:4711 --number 1 --holder 7 --service RA --country GB --first 0 --last 2",
@@ -145,7 +145,7 @@ const OPTIONS: &[Line] = &[
     ),
     (
         "s10 serve --day 4294967295 --count=4294967295 --bind '' --ledger ''",
-        r#"Some(Serve { ledger: "", bind: "", options: TurnOptions { count: 4294967295, day: Some(4294967295), most_days_ahead: None }, until: None })"#,
+        r#"Some(Serve { ledger: "", bind: "", options: TurnOptions { count: 4294967295, day: Some(4294967295), most_days_ahead: None, senders: false }, until: None })"#,
     ),
     (
         "s10 draw --notes a.notes --to 127.0.0.1:4711 --service RA --country GB --tries 2",
@@ -157,11 +157,11 @@ const OPTIONS: &[Line] = &[
     ),
     (
         "s10 serve --most-days-ahead 30 --bind 0.0.0.0:0 --ledger a.db",
-        r#"Some(Serve { ledger: "a.db", bind: "0.0.0.0:0", options: TurnOptions { count: 4294967295, day: None, most_days_ahead: Some(30) }, until: None })"#,
+        r#"Some(Serve { ledger: "a.db", bind: "0.0.0.0:0", options: TurnOptions { count: 4294967295, day: None, most_days_ahead: Some(30), senders: false }, until: None })"#,
     ),
     (
         "s10 serve --until end --count 3 --bind 0.0.0.0:0 --ledger a.db",
-        r#"Some(Serve { ledger: "a.db", bind: "0.0.0.0:0", options: TurnOptions { count: 3, day: None, most_days_ahead: None }, until: Some("end") })"#,
+        r#"Some(Serve { ledger: "a.db", bind: "0.0.0.0:0", options: TurnOptions { count: 3, day: None, most_days_ahead: None, senders: false }, until: Some("end") })"#,
     ),
     (
         "s10 report --day 0 --issues --ledger 'a b.db'",
@@ -480,6 +480,13 @@ const MORE: &[Reach] = &[
         "--count=8",
         "count: 4294967295",
         "count: 8",
+    ),
+    (
+        Serve,
+        ONE_MORE,
+        "--senders",
+        "senders: false",
+        "senders: true",
     ),
     (
         Serve,

@@ -27,6 +27,7 @@ fn served_at<R: Net + Clock + Eprint + AllocGlobal, W: Write>(
         count,
         day: Some(20_000),
         most_days_ahead: None,
+        senders: false,
     };
     let mut ends = AtCount;
     let (served, _link, _book) = serve_at(

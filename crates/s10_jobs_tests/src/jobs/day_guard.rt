@@ -70,6 +70,7 @@ fn come_to(
         count: 2,
         day: None,
         most_days_ahead: guarded.most_days_ahead,
+        senders: false,
     };
     let served = serve_turns(
         &rt,
@@ -161,6 +162,7 @@ fn is_served_on(
         count: 1,
         day: Some(day),
         most_days_ahead: Some(0),
+        senders: false,
     };
     let served = serve_turns(
         &rt,

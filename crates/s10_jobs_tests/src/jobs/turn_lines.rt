@@ -50,22 +50,22 @@ fn turn(ends: Ends) -> Turn {
 }
 
 /// Returns whether a writer that fails after `room` bytes has the beginning of the turn's line.
-fn is_begun(alloc: Global, turn: &Turn, line: &[u8], room: usize) -> bool {
+fn is_begun(alloc: Global, turn: &Turn, senders: bool, line: &[u8], room: usize) -> bool {
     let mut out = Hiccup::new(alloc, room);
-    write_turn(turn, &mut out) == Err(WriteFault)
+    write_turn(turn, senders, &mut out) == Err(WriteFault)
         && out.bytes.len() == room
         && line.starts_with(out.bytes.as_slice())
 }
 
 /// Returns whether this is the line of the turn, and a writer that fails once has its beginning.
-fn is_line_of_turn(alloc: Global, turn: &Turn, line: &[u8]) -> bool {
+fn is_line_of_turn(alloc: Global, turn: &Turn, senders: bool, line: &[u8]) -> bool {
     for room in 0..line.len() {
-        if !is_begun(alloc, turn, line, room) {
+        if !is_begun(alloc, turn, senders, line, room) {
             return false;
         }
     }
     let mut out = Vec::new(alloc);
-    let written = write_turn(turn, &mut out);
+    let written = write_turn(turn, senders, &mut out);
     is_text(out, line) && written == Ok(())
 }
 
@@ -103,7 +103,36 @@ const TURNS: &[(Ends, &str)] = &[
 #[test]
 fn turns_have_their_lines(rt: HostRuntime) {
     for (ends, line) in TURNS {
-        let is_line = is_line_of_turn(rt.alloc(), &turn(*ends), line.as_bytes());
+        let is_line = is_line_of_turn(rt.alloc(), &turn(*ends), false, line.as_bytes());
+        assert!(rt; holds(&rt, line, is_line));
+    }
+}
+
+const SENDERS: &[(Ends, &str)] = &[
+    (Ends::Quiet, "quiet\n"),
+    (
+        Ends::Dropped(WireFault::Field(12)),
+        "dropped field 12 from 10.0.0.1:4711\n",
+    ),
+    (
+        Ends::Faulted(BookFault::Full),
+        "faulted full from 10.0.0.1:4711\n",
+    ),
+    (
+        Ends::Uncommitted(BookFault::Store),
+        "uncommitted store from 10.0.0.1:4711\n",
+    ),
+    (
+        Ends::Replied(DRAWN),
+        "replied 533101820000000700000001524147420000004e2052413030303030303030354742 from 10.0.0.1:4711\n",
+    ),
+    (Ends::Failed(LinkFault::Send), "link send\n"),
+];
+
+#[test]
+fn turns_of_peers_name_their_senders(rt: HostRuntime) {
+    for (ends, line) in SENDERS {
+        let is_line = is_line_of_turn(rt.alloc(), &turn(*ends), true, line.as_bytes());
         assert!(rt; holds(&rt, line, is_line));
     }
 }

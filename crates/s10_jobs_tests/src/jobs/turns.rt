@@ -109,6 +109,7 @@ fn on(count: u32, day: Option<u32>) -> TurnOptions {
         count,
         day,
         most_days_ahead: None,
+        senders: false,
     }
 }
 

@@ -3,6 +3,7 @@ use Rattle.s10_grammar.proofs.serve_command.serve_command.Goals as goal
 pub returns : goal.returns
 returns c =
     c.with.ensures _ _
+    (c.with-command-6.ensures _ _
     (c.with-command-5.ensures _ _
     (c.with-command-4.ensures _ _
     (c.with-command-3.ensures _ _
@@ -12,4 +13,5 @@ returns c =
     c.turn_count_option.ensures)
     c.option.ensures)
     c.day_option.ensures)
-    c.days_ahead_option.ensures
+    c.days_ahead_option.ensures)
+    c.flag.ensures

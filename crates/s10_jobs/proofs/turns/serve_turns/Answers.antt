@@ -12,7 +12,7 @@ pub loop-done-init : goal.loop-done-init
 loop-done-init g c = record {
   few = omega arith;
   served = none_served _ _ g.D.Days.gives c.args.options.day g.E.Ending.says
-      (g.L.Link.trace_of c.args.link.now, c.args.server.now.book) c.args.days.now c.args.ends.now
+      (g.L.Link.trace_of c.args.link.now, c.args.server.now.book) c.args.days.now c.args.ends.now c.args.options.senders
       (g.W.Write.contents c.args.out.now);
   led = none;
 }
@@ -36,7 +36,7 @@ returns-in_err-print_turns-in-Ok-clause-turns g c =
     c.loop-done.days c.day_of_batch.new.days c.book.ensures c.in-Some.is c.day_of_batch.ensures.next in
     as_one _ _ _ _ _ _ _ g.met.B.Book.legal g.met.B.Book.first g.met.B.Book.found g.D.Days.gives
     c.args.options g.E.Ending.says _ _ _ _ _ _ _ _ _
-    (batch_unprinted _ _ _ g.D.Days.gives c.args.options.day g.E.Ending.says _ _ _ _ _ _ _ _ _ _ _ _
+    (batch_unprinted _ _ _ g.D.Days.gives c.args.options.day g.E.Ending.says _ _ _ _ _ _ _ _ _ _ _ _ _
     c.loop-done.done c.args.options.count
     c.loop-done.invariant.served
     (record { day = c.in-Some.today; turns = c.in-Ok.turns.items }) c.from_residual.result _
@@ -56,7 +56,7 @@ returns-in_err-print_turns-in-Err-clause-turns g c =
     c.loop-done.days c.day_of_batch.new.days c.book.ensures c.in-Some.is c.day_of_batch.ensures.next in
     as_one _ _ _ _ _ _ _ g.met.B.Book.legal g.met.B.Book.first g.met.B.Book.found g.D.Days.gives
     c.args.options g.E.Ending.says _ _ _ _ _ _ _ _ _
-    (batch_unprinted _ _ _ g.D.Days.gives c.args.options.day g.E.Ending.says _ _ _ _ _ _ _ _ _ _ _ _
+    (batch_unprinted _ _ _ g.D.Days.gives c.args.options.day g.E.Ending.says _ _ _ _ _ _ _ _ _ _ _ _ _
     c.loop-done.done c.args.options.count
     c.loop-done.invariant.served
     (record { day = c.in-Some.today; turns = c.serve_batch_of_one-turn.result ∷ [] })
@@ -94,7 +94,7 @@ loop-done-preserved g c =
             few = fits_in c.loop-done.done c.args.options.count c.min-most.result (length w.in-Ok.turns.items)
                 (let few = c.min-most.ensures in let test = c.loop-done-test.true in grind arith)
                 w.in-Ok.ensures.few;
-            served = batch_served _ _ (λ s day. ⊥) g.D.Days.gives c.args.options.day g.E.Ending.says _ _ _ _ _ _ _ _ _ _ _ _
+            served = batch_served _ _ (λ s day. ⊥) g.D.Days.gives c.args.options.day g.E.Ending.says _ _ _ _ _ _ _ _ _ _ _ _ _
                 c.loop-done.done c.args.options.count c.loop-done.invariant.served
                 (record { day = c.in-Some.today; turns = w.in-Ok.turns.items })
                 (subst (λ (b : Bool). g.E.Ending.says c.loop-done.ends b c.is_due.new.self) c.if-is_due.false
@@ -107,7 +107,7 @@ loop-done-preserved g c =
       | in-Err+in_ok-print_turns-in-Err w ↦
           rw (w.done-is, w.out-is, w.link-is, w.server-is) (record {
             few = one_fits c.loop-done.done c.args.options.count c.loop-done-test.true;
-            served = batch_served _ _ (λ s day. ⊥) g.D.Days.gives c.args.options.day g.E.Ending.says _ _ _ _ _ _ _ _ _ _ _ _
+            served = batch_served _ _ (λ s day. ⊥) g.D.Days.gives c.args.options.day g.E.Ending.says _ _ _ _ _ _ _ _ _ _ _ _ _
                 c.loop-done.done c.args.options.count c.loop-done.invariant.served
                 (record { day = c.in-Some.today; turns = w.serve_batch_of_one-turn.result ∷ [] })
                 (subst (λ (b : Bool). g.E.Ending.says c.loop-done.ends b c.is_due.new.self) c.if-is_due.false
@@ -138,7 +138,7 @@ returns-clause-turns g c =
     c.args.options g.E.Ending.says _ _ _ _ _ _ _ _ _
     (all_served _ _ _ g.D.Days.gives c.args.options.day g.E.Ending.says _ _
     (g.L.Link.trace_of c.loop-done.link, c.loop-done.server.book) _ _ c.loop-done.days _ _
-    c.loop-done.ends _ _ (g.W.Write.contents c.loop-done.out) c.loop-done.done c.args.options.count
+    c.loop-done.ends _ _ _ (g.W.Write.contents c.loop-done.out) c.loop-done.done c.args.options.count
     c.loop-done.invariant.served
     (all_done c.loop-done.done c.args.options.count c.loop-done.invariant.few c.loop-done-test.false))
 
@@ -147,7 +147,7 @@ returns-then-is_due-clause-turns g c =
     as_one _ _ _ _ _ _ _ g.met.B.Book.legal g.met.B.Book.first g.met.B.Book.found g.D.Days.gives
     c.args.options g.E.Ending.says _ _ _ _ _ _ _ _ _
     (served_to_end _ _ _ g.D.Days.gives c.args.options.day g.E.Ending.says _ _
-    (g.L.Link.trace_of c.loop-done.link, c.loop-done.server.book) _ _ c.loop-done.days _ _ _ _ _
+    (g.L.Link.trace_of c.loop-done.link, c.loop-done.server.book) _ _ c.loop-done.days _ _ _ _ _ _
     (g.W.Write.contents c.loop-done.out) c.loop-done.done c.args.options.count
     c.loop-done.invariant.served c.loop-done-test.true
     (subst (λ (b : Bool). g.E.Ending.says c.loop-done.ends b c.is_due.new.self) c.if-is_due.true
@@ -158,7 +158,7 @@ returns-in_default-clause-turns g c =
     as_one _ _ _ _ _ _ _ g.met.B.Book.legal g.met.B.Book.first g.met.B.Book.found g.D.Days.gives
     c.args.options g.E.Ending.says _ _ _ _ _ _ _ _ _
     (served_to_no_day _ _ _ g.D.Days.gives c.args.options.day g.E.Ending.says _ _
-    (g.L.Link.trace_of c.loop-done.link, c.loop-done.server.book) _ _ _ _ _ _ _ _ _
+    (g.L.Link.trace_of c.loop-done.link, c.loop-done.server.book) _ _ _ _ _ _ _ _ _ _
     c.loop-done.done c.args.options.count
     c.loop-done.invariant.served c.fail_by_clock.result c.loop-done-test.true
     (subst (λ (b : Bool). g.E.Ending.says c.loop-done.ends b c.is_due.new.self) c.if-is_due.false

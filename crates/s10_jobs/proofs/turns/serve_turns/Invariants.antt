@@ -15,7 +15,8 @@ invariant-loop-done g l = record {
       g.D.Days.gives l.fn.options.day
       g.E.Ending.says
       (g.L.Link.trace_of l.fn.link, l.fn.server.book) (g.L.Link.trace_of l.link, l.server.book)
-      l.fn.days l.days l.fn.ends l.ends (g.W.Write.contents l.fn.out) (g.W.Write.contents l.out) l.done;
+      l.fn.days l.days l.fn.ends l.ends l.fn.options.senders
+      (g.W.Write.contents l.fn.out) (g.W.Write.contents l.out) l.done;
   led : LeadsTo g.L.Link.step l.fn.link l.link;
 }
 
