@@ -112,6 +112,32 @@ def try_server(folder):
     print("a server: one socket, at its address; one reply, from there")
 
 
+def try_senders(folder):
+    """With --senders, the line of each datagram ends with its sender."""
+    ledger = f"{folder}/ledger"
+    same("create", (0, "created\n", ""), run("create", "--ledger", ledger, "--interval", "30", "--limit", "1"))
+    words = ["s10", "serve", "--ledger", ledger, "--bind", "127.0.0.2:0", "--count", "60", "--day", "20000", "--senders"]
+    pipes = {"stdout": subprocess.PIPE, "stderr": subprocess.PIPE, "text": True}
+    with subprocess.Popen(words, executable=PROGRAM, **pipes) as server:
+        try:
+            server.stderr.readline()
+            to = ("127.0.0.2", int(server.stderr.readline().rpartition(":")[2]))
+            with udp_socket("127.0.0.1") as one, udp_socket("127.0.0.3") as other:
+                froms = [":".join(map(str, link.getsockname())) for link in (one, other)]
+                one.sendto(GRANT, to)
+                one.settimeout(PATIENCE)
+                one.recvfrom(2048)
+                other.sendto(b"S1", to)
+                lines = [server.stdout.readline()]
+                while lines[-1] in ("quiet\n", f"replied {GRANTED.hex()} from {froms[0]}\n"):
+                    lines.append(server.stdout.readline())
+        finally:
+            server.send_signal(signal.SIGKILL)
+    said = [line for line in lines if line != "quiet\n"]
+    same("the lines with senders", [f"replied {GRANTED.hex()} from {froms[0]}\n", f"dropped short from {froms[1]}\n"], said)
+    print("a server with --senders: each line has its own")
+
+
 def try_client(_):
     """A command that asks has one socket, to which any machine can reply, and sends its request as often as it says."""
     tries = 3
@@ -226,7 +252,7 @@ def main():
     signal.signal(signal.SIGINT, signal.default_int_handler)
     parts = [try_wrong_lines, try_lines, try_help, try_statuses]
     if Path("/proc/net/udp").exists():
-        parts += [try_server, try_client]
+        parts += [try_server, try_senders, try_client]
     else:
         print("skipped sockets: /proc/net/udp")
     failed = 0

@@ -16,7 +16,7 @@ _s10() {
         show) options='--help' values='' files='' ;;
         replay) options='--interval --limit --help' values='--interval --limit' files='' ;;
         create) options='--ledger --interval --limit --help' values='--interval --limit' files='--ledger' ;;
-        serve) options='--ledger --bind --count --until --day --most-days-ahead --help' values='--bind --count --day --most-days-ahead' files='--ledger --until' ;;
+        serve) options='--ledger --bind --count --until --day --most-days-ahead --senders --help' values='--bind --count --day --most-days-ahead' files='--ledger --until' ;;
         grant) options='--to --number --notes --holder --service --country --first --last --tries --help' values='--to --number --holder --service --country --first --last --tries' files='--notes' ;;
         draw) options='--to --customer --number --notes --service --country --count --tries --help' values='--to --customer --number --service --country --count --tries' files='--notes' ;;
         void) options='--to --customer --number --notes --id --tries --help' values='--to --customer --number --id --tries' files='--notes' ;;

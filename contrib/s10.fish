@@ -57,6 +57,7 @@ complete -c s10 -n '__fish_seen_subcommand_from serve; and test (commandline -op
 complete -c s10 -n '__fish_seen_subcommand_from serve; and test (commandline -opc)[-1] = --until' -F
 complete -c s10 -n '__fish_seen_subcommand_from serve; and test (commandline -opc)[2] = serve; and not __fish_contains_opt day' -l day -x -d 'The day of all requests; by default the clock\'s day, read before each batch'
 complete -c s10 -n '__fish_seen_subcommand_from serve; and test (commandline -opc)[2] = serve; and not __fish_contains_opt most-days-ahead' -l most-days-ahead -x -d 'End with `clock` if the clock\'s day is more than this many days past the day of the last call'
+complete -c s10 -n '__fish_seen_subcommand_from serve; and test (commandline -opc)[2] = serve; and not __fish_contains_opt senders' -l senders -d 'End the line of each datagram with its sender, as `from 10.0.0.7:40123`'
 complete -c s10 -n '__fish_seen_subcommand_from serve; and test (commandline -opc)[2] = serve; and not __fish_contains_opt help' -s h -l help -d 'Print help'
 complete -c s10 -n '__fish_seen_subcommand_from grant; and test (commandline -opc)[2] = grant; and not __fish_contains_opt to' -l to -x -d 'The address of the server, as 127.0.0.1:4711'
 complete -c s10 -n '__fish_seen_subcommand_from grant; and test (commandline -opc)[2] = grant; and not __fish_contains_opt number' -l number -x -d 'The number of the request. The same number with the same request is answered again'
