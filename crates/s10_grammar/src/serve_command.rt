@@ -111,9 +111,10 @@ pending are written, the ledger is closed, and the exit status is 0. A line of a
 If standard output fails, `serve` ends with status 3 and standard error says why.
 
 A stop at any moment leaves a ledger that opens. Standard error has the address that is served at,
-the reason why a ledger cannot be opened, both days if `--most-days-ahead` refuses one, and the
-sender of a dropped datagram, in at most one line a minute. There is no authentication: whoever
-reaches the address can ask as customer 0.
+the calls of the ledger with their limit, its last day and today. It has the reason why a ledger
+cannot be opened, both days if `--most-days-ahead` refuses one, a warning if the last day is past
+today or the limit is near, and the sender of a dropped datagram, in at most one line a minute.
+There is no authentication: whoever reaches the address can ask as customer 0.
 
 Example:
   s10 serve --ledger post.db --bind 127.0.0.1:4711 --count 1

@@ -14,6 +14,7 @@ pub mod Reporting
 pub mod Serving
 pub mod Days
 pub mod DayGuard
+pub mod Shares
 pub mod Ending
 pub mod Unbound
 pub mod Questioning

@@ -15,6 +15,7 @@ use crate::ending::Ending;
 use crate::failure_log::FailureLog;
 use crate::failures::fail_by_clock;
 use crate::job_status::JobStatus;
+use crate::ledger_log::LedgerLog;
 use crate::turn_line::write_turn;
 use crate::turn_options::TurnOptions;
 use s10_book::{GroupCommit, LastFailure, MAX_BATCH};
@@ -31,7 +32,9 @@ use std::time::Clock;
 /// sent, and its lines are written and flushed. If a batch cannot be allocated, the server handles
 /// one datagram without allocating. Standard error has the sender of a dropped datagram at once. For
 /// a minute after that it only counts them, and then has their number and the sender of the last.
-/// It also has the reason why the ledger fails, at each change of the reason.
+/// It also has the reason why the ledger fails, at each change of the reason. Before the first batch
+/// it has the number of calls and both days, then once a day that the ledger's last day is past the
+/// batch's, and once that 90, 95 and 99 of each 100 calls of the limit are kept.
 ///
 /// From the first batch to the last, each distinct request that arrived is applied once, in order
 /// of first arrival, and the call of each reply that was sent is committed.
@@ -74,6 +77,7 @@ where
 {
     let mut drops = DropLog::new(rt);
     let mut failures = FailureLog::new(rt);
+    let mut ledger = LedgerLog::new(rt);
     let mut done = 0;
     while done < options.count {
         if ends.is_due() {
@@ -83,6 +87,7 @@ where
         let Some(today) = day_of_batch(rt, days, &options, server.book()) else {
             return fail_by_clock(out);
         };
+        ledger.eprint_day(server.book(), today);
         let most = (options.count - done).min(MAX_BATCH);
         match serve_batch(alloc, server, link, today, most) {
             Ok(turns) => {
@@ -96,6 +101,7 @@ where
             }
         }
         failures.eprint_change(server.book().last_failure());
+        ledger.eprint_calls(server.book());
     }
     drops.eprint_rest();
     Ok(JobStatus::Done)

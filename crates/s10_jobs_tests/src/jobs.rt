@@ -2,6 +2,7 @@
 
 mod day_guard;
 mod each_line;
+mod ledger_log;
 mod many_lines;
 mod notes;
 mod questions;
