@@ -243,14 +243,14 @@ class Room:
         return came
 
     def serve(self, text):
-        """Starts a server and waits for its address. Returns the lines of its standard error up to then."""
+        """Starts a server and waits until it serves. Returns the lines of its standard error up to then."""
         self.stop()
         command = ["bash", "-c", f"exec {self.ours(text)} > turns"]
         self.server = subprocess.Popen(command, cwd=self.folder, env=self.env, stderr=subprocess.PIPE, text=True)
         lines = []
         for line in self.server.stderr:
             lines.append(self.shown(line.rstrip("\n")))
-            if line.startswith("serving on "):
+            if line.startswith("calls "):
                 return lines
         raise Failure("\n".join([text, *lines]))
 
@@ -306,7 +306,10 @@ def busy(lines):
 def run_and_compare(room, command):
     """Runs a command. Its output must be what the page shows; if the page shows nothing, its status must be 0."""
     if command.head().startswith("s10 serve "):
-        compare(command.where(), busy(command.shown), room.serve(command.text))
+        shown, came = busy(command.shown), room.serve(command.text)
+        # Without a given day the page shows another one than today's.
+        if "--day" in command.text or without_numbers(shown) != without_numbers(came):
+            compare(command.where(), shown, came)
         return
     status, came = room.run(command.text)
     if not command.shown and status != 0:

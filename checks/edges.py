@@ -96,11 +96,11 @@ def try_server(folder):
     pipes = {"stdout": subprocess.PIPE, "stderr": subprocess.PIPE, "text": True}
     with subprocess.Popen(words, executable=PROGRAM, **pipes) as server, udp_socket("127.0.0.1") as link:
         try:
-            told = [server.stderr.readline(), server.stderr.readline()]
+            told = [server.stderr.readline() for _ in range(3)]
             found = sockets_of(server.pid)
             same("the sockets of a server", 1, len(found))
             same("its address", "127.0.0.2", found[0][0])
-            same("the lines of a server", [f"opening {ledger}\n", f"serving on 127.0.0.2:{found[0][1]}\n"], told)
+            same("the lines of a server", [f"opening {ledger}\n", f"serving on 127.0.0.2:{found[0][1]}\n", "calls 0 of 1000, last day 0, today 20000\n"], told)
             link.sendto(GRANT, found[0])
             link.settimeout(PATIENCE)
             came = [link.recvfrom(2048), *all_datagrams(link, 1)]

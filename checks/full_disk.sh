@@ -133,7 +133,7 @@ withheld() {
 }
 
 # The replies that the server has sent must be those that the clients got, its other turns must be those of a full disk, and
-# standard error must have these lines after the address.
+# standard error must have these lines after the address and the calls.
 check_turns() { # ANSWERED_FILE LINES
     # Word splitting separates the numbers.
     # shellcheck disable=SC2046
@@ -141,7 +141,7 @@ check_turns() { # ANSWERED_FILE LINES
     sed -n 's/^replied 5331018200000007\(........\).*/\1/p' turns | sort -u >sent
     cmp -s got sent || fail "a reply was sent that no client got, or the reverse: draws $(comm -3 got sent | tr -d '\t' | paste -sd' ')"
     if others=$(grep -v '^replied \|^quiet$\|^uncommitted store$\|^faulted store$' turns); then fail "other turns: $others"; fi
-    [ "$(sed 1,2d told)" = "$2" ] || fail "lines on standard error: $(cat told)"
+    [ "$(sed 1,3d told)" = "$2" ] || fail "lines on standard error: $(cat told)"
 }
 
 # Each of these draws must be in the report, and nothing else. No identifier and no number may be in two of them.

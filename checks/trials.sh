@@ -332,10 +332,10 @@ draw "$number" >../again || fail 'a draw once there is room'
 reasons='cannot use the ledger: database or disk is full
 the ledger can be used again'
 for _ in $(seq 50); do
-    if [ "$(sed 1,2d ../told)" = "$reasons" ]; then break; fi
+    if [ "$(sed 1,3d ../told)" = "$reasons" ]; then break; fi
     sleep 0.1
 done
-[ "$(sed 1,2d ../told)" = "$reasons" ] || fail 'lines on standard error of a full disk'
+[ "$(sed 1,3d ../told)" = "$reasons" ] || fail 'lines on standard error of a full disk'
 stop
 tries 0 "ledger ok $((number + 1))" '' '' audit --ledger ledger
 fi
@@ -432,7 +432,7 @@ wait "$server" || fail 'a server that gets junk'
 server=
 [ "$(grep -c '^dropped short$' ../turns)" = 6 ] || fail 'a line for each datagram'
 grep -q '^dropped 5 datagrams, the last from 127.0.0.1:[0-9]*$' ../told || fail 'the number of datagrams'
-[ "$(wc -l <../told)" = 4 ] || fail 'one line a minute'
+[ "$(wc -l <../told)" = 5 ] || fail 'one line a minute'
 count=$((count + 1))
 
 group outputs
@@ -455,7 +455,7 @@ for sink in closed full; do
     tries 3 '' "$why" "+$sink 32768,+$sink-wal 41" create --ledger "$sink" --interval 30 --limit 1000
     absent='cannot open missing: No such file or directory (os error 2)'
     tries 3 '' "opening missing|$absent|$why" '' serve --ledger missing --bind 127.0.0.1:0 --count 1
-    tries 3 '' "opening ledger|serving on *|$of_link" '~ledger-wal 41' serve --ledger ledger --bind 127.0.0.1:0 --count 1
+    tries 3 '' "opening ledger|serving on *|calls *|$of_link" '~ledger-wal 41' serve --ledger ledger --bind 127.0.0.1:0 --count 1
     tries 3 '' "$of_link" '' loop --day 20000
     unanswered 3 '' "$of_link"
 done
