@@ -86,16 +86,12 @@ fn is_told(
     served == Ok(JobStatus::Done) && rt.told.into_inner().as_slice() == told.as_bytes()
 }
 
-fn new_server(alloc: Global, limit: u32) -> Server<PlainBook> {
-    Server::new(PlainBook::new(alloc, Settings::new(30, limit).unwrap()))
-}
-
 #[test]
 fn a_ledger_near_its_limit_is_named_thrice(rt: HostRuntime) {
     let Ok(mut link) = link_of(rt.alloc(), TWENTY, &[true; 20]) else {
         panic!(rt; "no link");
     };
-    let mut server = new_server(rt.alloc(), 20);
+    let mut server = Server::new(PlainBook::new(rt.alloc(), Settings::new(30, 20).unwrap()));
     let days = [20_000, 20_000, 20_000, 20_000];
     let told = "calls 0 of 20, last day 0, today 20000
 90 of 100 calls of the limit are kept: 18 of 20
@@ -117,7 +113,7 @@ fn a_last_day_past_today_is_named_once_a_day(rt: HostRuntime) {
     let Ok(mut link) = link_of(rt.alloc(), ONE, &[true; 2]) else {
         panic!(rt; "no link");
     };
-    let mut server = new_server(rt.alloc(), 2);
+    let mut server = Server::new(PlainBook::new(rt.alloc(), Settings::new(30, 2).unwrap()));
     let told = "calls 0 of 2, last day 0, today 20000
 the last day of the ledger, 20000, is past today, 19999
 the last day of the ledger, 20000, is past today, 19998
