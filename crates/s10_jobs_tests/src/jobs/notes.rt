@@ -223,7 +223,8 @@ fn leaves(folder: &StoppingFolder, shown: &str, kept: &str) -> bool {
 
 /// Returns whether a case sends, prints and leaves what it says.
 fn is_as_listed(alloc: Global, case: &Case) -> bool {
-    let folder = StoppingFolder::new(case.notes.as_bytes(), OPENING + case.left, case.does_last);
+    let left = OPENING.saturating_add(case.left);
+    let folder = StoppingFolder::new(case.notes.as_bytes(), left, case.does_last);
     let Ok(mut notes) = NotesFile::open(folder) else {
         return false;
     };

@@ -1,6 +1,6 @@
 //! A folder of notes in memory that stops at one of its calls.
 
-ghost use Rattle.std.specs.Prelude.{◌≡◌, ◌∷◌, reverse};
+ghost use Rattle.std.specs.Prelude.{◌≡◌, ◌∷◌, IfSome, reverse};
 
 use http_server::Log;
 use s10_notes::{Folder, FolderCall, NotesFault, Text};
@@ -41,13 +41,23 @@ pub(crate) struct StoppingFolder {
     log: Log<FolderCall, bool>,
 }
 
-/// Returns a text of these bytes, or of the first for which it has room.
-fn text_of(bytes: &[u8]) -> Text {
+/// Returns a text of these bytes, or `None` if they are too many.
+fn read_text(bytes: &[u8]) -> Option<Text>
+    ensures { IfSome result (λ text. text.items ≡ bytes.now) }
+{
     let mut text = Text::new();
-    for byte in bytes {
-        let _fits = text.try_push(*byte);
+    match text.try_extend_from_slice(bytes) {
+        Ok(()) => Some(text),
+        Err(_) => None,
     }
-    text
+}
+
+/// Returns a text of these bytes, or an empty one if they are too many.
+fn text_of(bytes: &[u8]) -> Text {
+    match read_text(bytes) {
+        Some(text) => text,
+        None => Text::new(),
+    }
 }
 
 fn result_of(fate: Fate) -> Result<(), NotesFault> {
@@ -164,9 +174,14 @@ impl Folder for StoppingFolder {
             return Err(NotesFault::Store);
         }
         self.shown_synced = text_of(self.shown.as_slice());
-        let noted = text_of(self.shown.as_slice());
-        let text = text_of(self.shown.as_slice());
-        self.log_call(FolderCall::Read(noted), true);
+        let shown = self.shown.as_slice();
+        let Some(logged) = read_text(shown) else {
+            return Err(NotesFault::Damaged);
+        };
+        let Some(text) = read_text(shown) else {
+            return Err(NotesFault::Damaged);
+        };
+        self.log_call(FolderCall::Read(logged), true);
         Ok(text)
     }
 }
