@@ -9,13 +9,16 @@
  * request, and the day and the identifier, or the code of the refusal. A line with a number that
  * was printed before repeats that line.
  *
- * Status: 0 done, 1 refused by a rule, 2 wrong words, 3 no reply, or the notes or the socket
- * failed. */
+ * Status: 0 done, 1 refused by a rule, 2 wrong words, 3 no reply, or the notes, the socket or the
+ * output failed. After a line that was not printed it draws no more; the next run repeats it. */
+#define _POSIX_C_SOURCE 200809L
 #include "s10_client.h"
 #include <errno.h>
+#include <fcntl.h>
 #include <stdio.h>
 #include <stdlib.h>
 #include <string.h>
+#include <unistd.h>
 
 static int usage(void) {
     fputs("s10_draw create NOTES CUSTOMER FIRST LAST\n"
@@ -46,7 +49,13 @@ static int number(const char *text, uint32_t *out) {
     return *text >= '0' && *text <= '9' && *end == '\0' && errno == 0 && value <= UINT32_MAX;
 }
 
-/* Prints a reply. Returns whether the request is done. */
+/* Reports that the output failed. */
+static int fail_output(void) {
+    fputs("s10_draw: the output cannot be written\n", stderr);
+    return 3;
+}
+
+/* Prints a reply. Returns 1 if the request is done, 0 if it is refused, -1 if the output failed. */
 static int print(const struct s10_frame *sent, const struct s10_outcome *outcome) {
     struct s10_request request;
     s10_decode(sent->bytes, sent->len, &request);
@@ -56,7 +65,7 @@ static int print(const struct s10_frame *sent, const struct s10_outcome *outcome
         printf("%u done\n", request.number);
     for (int i = 0; i < outcome->count; i++)
         printf("%u day %u %s\n", request.number, outcome->day, outcome->texts[i]);
-    fflush(stdout);
+    if (fflush(stdout) != 0 || ferror(stdout)) return -1;
     return outcome->code == S10_DONE;
 }
 
@@ -73,6 +82,8 @@ int main(int argc, char **argv) {
         (argc > 7 && (!number(argv[7], &wait) || wait > 60000)))
         return usage();
 
+    /* Otherwise the system gives its number to the file of the lock, which then gets the lines. */
+    if (fcntl(STDOUT_FILENO, F_GETFD) == -1) return fail_output();
     struct s10_request draw = {.kind = S10_DRAW};
     memcpy(draw.service, argv[4], 2);
     memcpy(draw.country, argv[5], 2);
@@ -83,8 +94,9 @@ int main(int argc, char **argv) {
     session.wait = (int)wait;
     int done = 1;
     struct s10_frame sent = session.client.pending;
-    if (sent.len > 0 && (code = s10_session_again(&session, &outcome)) == 0) print(&sent, &outcome);
-    for (; code == 0 && done && count > 0; count--) {
+    if (sent.len > 0) code = s10_session_again(&session, &outcome);
+    if (sent.len > 0 && code == 0 && print(&sent, &outcome) < 0) done = -1;
+    for (; code == 0 && done > 0 && count > 0; count--) {
         struct s10_client before = session.client;
         code = s10_session_call(&session, &draw, &outcome);
         if (code == 0) {
@@ -95,5 +107,5 @@ int main(int argc, char **argv) {
         }
     }
     s10_session_close(&session);
-    return code != 0 ? fail(code) : !done;
+    return code != 0 ? fail(code) : done < 0 ? fail_output() : !done;
 }

@@ -39,9 +39,23 @@ class Log:
             assert self.drawn.setdefault(int(number), identifier) == identifier, line
 
 
+def words_of(notes, address, count):
+    """Returns the words of a run of the client."""
+    return [DRAW, notes, address[0], str(address[1]), "RA", "GB", str(count), str(WAIT)]
+
+
 def run(notes, address, count, kill_after=None):
     """Runs the client, kills it after some seconds, and returns what it printed and its status."""
-    return run_and_kill([DRAW, notes, address[0], str(address[1]), "RA", "GB", str(count), str(WAIT)], kill_after)
+    return run_and_kill(words_of(notes, address, count), kill_after)
+
+
+def check_failing_output(notes, address):
+    """Runs the client with an output that cannot be written. It draws once at most, and the next run prints that."""
+    for output in (">/dev/full", ">&-"):
+        words = ["sh", "-c", f'exec "$@" {output}', "sh", *words_of(notes, address, 2)]
+        status = subprocess.run(words, stderr=subprocess.DEVNULL, check=False).returncode
+        assert status == 3, (output, status)
+    assert not os.path.getsize(notes + ".lock"), "a line is in the lock"
 
 
 def main():
@@ -57,6 +71,7 @@ def main():
         create = [DRAW, "create", notes, "7", "1", "1000000"]
         assert subprocess.run(create, check=False).returncode == 0
         assert subprocess.run(create, stderr=subprocess.DEVNULL, check=False).returncode == 3
+        check_failing_output(notes, server.address)
         log, killed = Log(), 0
         while killed < KILLS:
             output, status = run(notes, networks.address(), 1000000, choose.uniform(0, 0.15))
