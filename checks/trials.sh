@@ -459,5 +459,24 @@ for sink in closed full; do
     tries 3 '' "$of_link" '' loop --day 20000
     unanswered 3 '' "$of_link"
 done
+sink=kept
+
+# Draws with notes whose reply cannot be printed. It is printed by `again`, and by nothing else.
+group open
+"$s10" create --ledger ../served --interval 30 --limit 1000 >../out
+serve ../served
+ask grant --number 1 --holder 7 --service RA --country GB --first 0 --last 2 >../out
+for file in closed full; do notes 0 created "+$file 55" "$file"; done
+draw_by_notes() { # SINK WORDS
+    sink=$1
+    tries 3 '' "error: the output cannot be written: $2" "+$1.lock 0,~$1 85" \
+        draw --to "$address" --notes "$1" --service RA --country GB
+    sink=kept
+    tries 0 'reply draw customer 7 number 1 RA GB done day 20000 RA000000005GB' '' "~$1 55" \
+        again --to "$address" --notes "$1"
+}
+draw_by_notes closed 'Bad file descriptor (os error 9)'
+draw_by_notes full 'No space left on device (os error 28)'
+stop
 
 echo "$count commands: each ended as is written, and left its folder as is written"

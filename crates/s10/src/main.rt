@@ -15,12 +15,15 @@ use s10_jobs::{ClockDays, Days, JobStatus};
 use s10_lines::WriteFault;
 use sqlite::{Start, Unknown};
 use std::convert::AsStr;
+use std::fs::File;
 use std::hash::RandomState;
 use std::io;
 use std::io::{BufWriter, ErrorKind, Read, Write};
+use std::os::fd::AsRawFd;
 use std::process::ExitCode;
 
 fn main(rt: HostRuntime) -> ExitCode {
+    let _held = hold_closed_streams(&rt);
     let words = match words_of(&rt) {
         Ok(words) => words,
         Err(error) => return ExitCode::from(print_word_error(&rt, &error) as u8),
@@ -38,6 +41,20 @@ fn main(rt: HostRuntime) -> ExitCode {
         &mut days,
     );
     ExitCode::from(status)
+}
+
+// Takes the numbers of the standard streams that are closed. Otherwise the next file or socket would get
+// one of them, and then what is printed. A folder can be neither read nor written, as a closed stream.
+fn hold_closed_streams(rt: &HostRuntime) -> [Option<File>; 3] {
+    [hold_one(rt), hold_one(rt), hold_one(rt)]
+}
+
+fn hold_one(rt: &HostRuntime) -> Option<File> {
+    let folder = File::open(rt, "/").ok()?;
+    if folder.as_raw_fd() > 2 {
+        return None;
+    }
+    Some(folder)
 }
 
 fn words_of(rt: &HostRuntime) -> io::Result<Vec<String>> {
