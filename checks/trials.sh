@@ -386,11 +386,11 @@ notes() { # STATUS LINE CHANGES FILE
 again() { # STATUS LINE CHANGES FILE
     tries "$1" "$2" '' "$3" again --to "$address" --notes "$4" --tries 1
 }
-notes 0 created '+printer 55' printer
+notes 0 created '+printer 55,+printer.lock 0' printer
 notes 3 'notes taken' '' printer
 notes 3 'notes store' '' missing/printer
 again 3 'notes missing' '' missing
-again 1 'refused answered' '+printer.lock 0' printer
+again 1 'refused answered' '' printer
 again 1 'refused answered' '' printer
 ask_by_notes() { # STATUS LINE CHANGES FILE
     tries "$1" "$2" '' "$3" draw --to "$address" --notes "$4" --service RA --country GB --tries 1
@@ -439,11 +439,10 @@ group outputs
 create 0 created '' '+ledger 32768,+ledger-wal 41' ledger
 for sink in closed full; do
     case $sink in
-        closed) why='Bad file descriptor (os error 9)' of_link='Destination address required (os error 89)' ;;
-        full) why='No space left on device (os error 28)' of_link=$why ;;
+        closed) why='Bad file descriptor (os error 9)' ;;
+        full) why='No space left on device (os error 28)' ;;
     esac
     why="error: the output cannot be written: $why"
-    of_link="error: the output cannot be written: $of_link"
     tries 3 '' "$why" '' check RA473124829US
     tries 3 '' "$why" '' make RA 00000008 GB
     tries 3 '' "$why" '' show 5331018200000007000000065241474205
@@ -455,9 +454,9 @@ for sink in closed full; do
     tries 3 '' "$why" "+$sink 32768,+$sink-wal 41" create --ledger "$sink" --interval 30 --limit 1000
     absent='cannot open missing: No such file or directory (os error 2)'
     tries 3 '' "opening missing|$absent|$why" '' serve --ledger missing --bind 127.0.0.1:0 --count 1
-    tries 3 '' "opening ledger|serving on *|calls *|$of_link" '~ledger-wal 41' serve --ledger ledger --bind 127.0.0.1:0 --count 1
-    tries 3 '' "$of_link" '' loop --day 20000
-    unanswered 3 '' "$of_link"
+    tries 3 '' "opening ledger|serving on *|calls *|$why" '~ledger-wal 41' serve --ledger ledger --bind 127.0.0.1:0 --count 1
+    tries 3 '' "$why" '' loop --day 20000
+    unanswered 3 '' "$why"
 done
 sink=kept
 
@@ -466,10 +465,10 @@ group open
 "$s10" create --ledger ../served --interval 30 --limit 1000 >../out
 serve ../served
 ask grant --number 1 --holder 7 --service RA --country GB --first 0 --last 2 >../out
-for file in closed full; do notes 0 created "+$file 55" "$file"; done
+for file in closed full; do notes 0 created "+$file 55,+$file.lock 0" "$file"; done
 draw_by_notes() { # SINK WORDS
     sink=$1
-    tries 3 '' "error: the output cannot be written: $2" "+$1.lock 0,~$1 85" \
+    tries 3 '' "error: the output cannot be written: $2" "~$1 85" \
         draw --to "$address" --notes "$1" --service RA --country GB
     sink=kept
     tries 0 'reply draw customer 7 number 1 RA GB done day 20000 RA000000005GB' '' "~$1 55" \
