@@ -27,3 +27,4 @@ pub mod Granting
 pub mod Determined
 pub mod Making
 pub mod Overlapping
+pub mod Passing

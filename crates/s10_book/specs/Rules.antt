@@ -1,5 +1,5 @@
 -- The rules: the outcome of each request, and the histories that follow them.
-use Rattle.std.specs.Prelude.{◌≡◌, ℕ, zero, suc, ◌+◌, ◌==◌, nat_lt, ◌<◌, ◌≤◌, Bool, not, ◌||◌}
+use Rattle.std.specs.Prelude.{◌≡◌, ℕ, zero, suc, ◌+◌, ◌==◌, nat_lt, ◌<◌, ◌≤◌, Bool, not, ◌||◌, ◌&&◌}
 use Rattle.std.specs.Prelude.{if◌then◌else◌, List, [], ◌∷◌, ◌++◌, length, Option, Some, None}
 use Rattle.std.specs.Prelude.{is_none, find, slice_get, take, All, AllPairs, IsTrue, count_by}
 use Rattle.std.specs.List.{list_any}
@@ -24,7 +24,7 @@ use Rattle.s10_history.specs.declared.issue.Issue.{Issue}
 use Rattle.s10_history.specs.declared.issuance.Issuance.{Issuance}
 use Rattle.s10_history.specs.Settings.{Terms}
 use Rattle.s10_history.specs.History.{has_key, find_entry, day_of, ranges_of, lies_in, is_own}
-use Rattle.s10_history.specs.History.{overlaps, is_closed, ranges_open}
+use Rattle.s10_history.specs.History.{overlaps, is_closed, is_open, ranges_open}
 use Rattle.s10_history.specs.Issues.{issues_of, last_issue_of, pick_of, id_at, serials, is_free}
 
 -- The outcome of a Grant: only the post creates ranges, and no two of them have a serial in common.
@@ -38,6 +38,16 @@ grant_answer h customer holder service country first last =
 -- Whether the pick of the range is free on the day.
 abbrev pub has_free_pick : List Issuance → ℕ → ℕ → Range → Bool
 has_free_pick is day interval r = is_free is (id_at r (pick_of is r)) day interval
+
+-- Whether the range is open so, and its pick is free on the day.
+abbrev pub is_free_range : List Entry → ℕ → ℕ × ℕ → ℕ × ℕ → ℕ → ℕ → Range → Bool
+is_free_range h customer service country day interval r =
+    is_open h customer service country r && has_free_pick (issues_of h) day interval r
+
+-- Whether the range is open and free so, and its number is above `after`.
+abbrev pub is_free_after : List Entry → ℕ → ℕ → ℕ × ℕ → ℕ × ℕ → ℕ → ℕ → Range → Bool
+is_free_after h after customer service country day interval r =
+    nat_lt after r.num && is_free_range h customer service country day interval r
 
 -- The pick of the range that was found, or the refusal if none of the ranges was.
 abbrev pub outcome_of_pick : List Issuance → ℕ → List Range → Option Range → Outcome

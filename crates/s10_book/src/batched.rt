@@ -98,6 +98,15 @@ impl<B: GroupCommit> Book for Batched<B> {
         self.inner.next_range(held, after)
     }
 
+    fn next_free_range(
+        &mut self,
+        held: &HolderKey,
+        after: u32,
+        day: u32,
+    ) -> Result<Option<Range>, BookFault> {
+        self.inner.next_free_range(held, after, day)
+    }
+
     fn covering(&mut self, span: &SerialSpan) -> Result<Option<Range>, BookFault> {
         self.inner.covering(span)
     }

@@ -28,7 +28,7 @@ pub trait Book {
     ghost use Rattle.s10_history.specs.Issues.{last_issue_of, candidate_of, candidate_after_of};
     ghost use Rattle.s10_history.specs.Issues.{size_of};
     ghost use Rattle.s10_history.specs.Usage.{usage_of};
-    ghost use Rattle.s10_book.specs.Rules.{MayFollow, IsLegal};
+    ghost use Rattle.s10_book.specs.Rules.{MayFollow, IsLegal, is_free_after};
     ghost use Rattle.s10_book.specs.BookFault.{CountsResult};
     ghost use Rattle.s10_book.specs.Book.{Grows, FindsAfter, IsPerhapsWith, Unchanged};
     ghost use Rattle.std.specs.Prelude.{◌≡◌, ℕ, ◌++◌, ◌∷◌, [], ◌<◌, ◌≤◌, ◌==◌, List, length, find};
@@ -149,6 +149,28 @@ pub trait Book {
             → IfOk result (λ found. found
             ≡ find (is_open_after (history self.old) after held.now.holder held.now.service
             held.now.country) (ranges_of (history self.old))) };
+
+    /// Returns the open range of a holder key with the least number above `after` whose pick is free
+    /// on `day`, if there is one.
+    ///
+    /// # Errors
+    ///
+    /// - `Memory` if memory is refused.
+    /// - `Store` if the store fails.
+    fn next_free_range(
+        &mut self,
+        held: &HolderKey,
+        after: u32,
+        day: u32,
+    ) -> Result<Option<Range>, BookFault>
+        ensures faults { CountsResult result (faults self.old) (faults self.new) }
+        ensures unchanged { Unchanged history committed terms honest clean may_find self.old
+            self.new }
+        ensures opened { clean self.new → OnOk result (honest self.new) }
+        ensures answer { honest self.new
+            → IfOk result (λ found. found
+            ≡ find (is_free_after (history self.old) after held.now.holder held.now.service
+            held.now.country day (terms self.old).interval) (ranges_of (history self.old))) };
 
     /// Returns the range with the least number that has a serial of the span, if there is one.
     ///

@@ -10,7 +10,7 @@ ghost use Rattle.s10_history.specs.History.{is_closed, is_open_after, overlaps};
 ghost use Rattle.s10_history.specs.Issues.{issues_of, issues_at, last_issue_of, candidate_of};
 ghost use Rattle.s10_history.specs.Issues.{candidate_after_of, size_of};
 ghost use Rattle.s10_history.specs.Usage.{usage_of};
-ghost use Rattle.s10_book.specs.Rules.{IsLegal, MayFollow};
+ghost use Rattle.s10_book.specs.Rules.{IsLegal, MayFollow, is_free_after};
 ghost use Rattle.s10_book.specs.BookFault.{CountsResult, no_faults};
 
 use crate::book::Book;
@@ -21,7 +21,8 @@ use crate::last_failure::LastFailure;
 use s10_core::Id;
 use s10_history::{
     Candidate, Entry, HolderKey, Issuance, Issue, Range, SerialSpan, Settings, Usage, candidate_in,
-    closed_in, covering_in, entry_in, find_in, last_issue_in, next_range_in, range_in, usage_in,
+    closed_in, covering_in, entry_in, find_in, is_free, last_issue_in, next_range_in, range_in,
+    usage_in,
 };
 use std::alloc::{AllocError, Global};
 
@@ -106,6 +107,25 @@ fn range_made(count: usize, entry: &Entry) -> Option<Range>
     ensures { result ≡ range_of_grant (count + 1) entry.now.request.body entry.now.outcome }
 {
     entry.range_made(count as u32 + 1)
+}
+
+// Returns the first open range of the holder key above the number `after` whose pick is free on the
+// day.
+fn next_free_in(book: &PlainBook, held: &HolderKey, after: u32, day: u32) -> Option<Range>
+    ensures { result ≡ find (is_free_after book.now.entries.items after held.now.holder
+        held.now.service held.now.country day book.now.settings.interval)
+        (ranges_of book.now.entries.items) }
+{
+    let interval = book.settings.interval();
+    let mut past = after;
+    while let Some(range) = next_range_in(&book.entries, &book.ranges, held, past) {
+        let candidate = candidate_in(&book.entries, &book.issues, &range);
+        if is_free(&candidate.issue, day, interval) {
+            return Some(range);
+        }
+        past = range.num;
+    }
+    None
 }
 
 // Returns the candidate of the range after `issued` further picks of it.
@@ -213,6 +233,21 @@ impl Book for PlainBook {
         ensures above { IfOk result (λ found. IfSome found (λ r. after < r.num)) }
     {
         Ok(next_range_in(&self.entries, &self.ranges, held, after))
+    }
+
+    fn next_free_range(
+        &mut self,
+        held: &HolderKey,
+        after: u32,
+        day: u32,
+    ) -> Result<Option<Range>, BookFault>
+        ensures same { self.new ≡ self.old }
+        ensures answer { result
+            ≡ Ok (find (is_free_after (⟦<PlainBook as Book>⟧.history self.old) after held.now.holder
+            held.now.service held.now.country day (⟦<PlainBook as Book>⟧.terms self.old).interval)
+            (ranges_of (⟦<PlainBook as Book>⟧.history self.old))) }
+    {
+        Ok(next_free_in(self, held, after, day))
     }
 
     fn covering(&mut self, span: &SerialSpan) -> Result<Option<Range>, BookFault>

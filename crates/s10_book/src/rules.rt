@@ -16,7 +16,7 @@ use crate::book::Book;
 use crate::book_fault::BookFault;
 use crate::draws::successive_draws;
 use s10_core::{Country, Id, Serial, Service};
-use s10_history::{HolderKey, Issue, SerialSpan, is_free};
+use s10_history::{HolderKey, Issue, SerialSpan};
 use s10_wire::{Body, Count, Outcome, Request, Status};
 
 // Returns the outcome of a Draw: the pick of the lowest-numbered open range of the sender whose
@@ -34,26 +34,20 @@ fn decide_draw<B: Book>(
         (B.terms book.old).interval) }
     ensures fits { IfOk result (λ o. IsTrue (fits (Body.Draw service country) o)) }
 {
-    let interval = book.settings().interval();
     let held = HolderKey {
         holder: customer,
         service,
         country,
     };
-    let mut after = 0;
-    while let Some(range) = book.next_range(&held, after)? {
-        after = range.num;
-        let candidate = book.candidate(&range)?;
-        if is_free(&candidate.issue, day, interval) {
-            let id = range.id(candidate.serial);
-            return Ok(Outcome::Drawn { day, id });
+    let Some(range) = book.next_free_range(&held, 0, day)? else {
+        if book.next_range(&held, 0)?.is_none() {
+            return Ok(Outcome::NoRange);
         }
-    }
-    if after == 0 {
-        Ok(Outcome::NoRange)
-    } else {
-        Ok(Outcome::NoneFree)
-    }
+        return Ok(Outcome::NoneFree);
+    };
+    let candidate = book.candidate(&range)?;
+    let id = range.id(candidate.serial);
+    Ok(Outcome::Drawn { day, id })
 }
 
 // Returns the outcome of a DrawMany: the identifiers of successive Draws, or why there are none.

@@ -140,6 +140,18 @@ impl<B: Book> Book for TripBook<B> {
         self.inner.next_range(held, after)
     }
 
+    fn next_free_range(
+        &mut self,
+        held: &HolderKey,
+        after: u32,
+        day: u32,
+    ) -> Result<Option<Range>, BookFault> {
+        if self.trips() {
+            return Err(BookFault::Store);
+        }
+        self.inner.next_free_range(held, after, day)
+    }
+
     fn covering(&mut self, span: &SerialSpan) -> Result<Option<Range>, BookFault> {
         if self.trips() {
             return Err(BookFault::Store);
