@@ -66,9 +66,9 @@ middle : (x y n m k : ℕ) → n < 4294967296 → k < 4294967296 → x * 4294967
     → y * 4294967296 + n < x * 4294967296 + k → x ≡ y
 middle x y n m k small large le lt = omega arith
 
-parts : (h p i q : ℕ) → p < 4294967296 → q < 4294967296 → h * 4294967296 + p ≡ i * 4294967296 + q
+pub pair_parts : (h p i q : ℕ) → p < 4294967296 → q < 4294967296 → h * 4294967296 + p ≡ i * 4294967296 + q
     → (h ≡ i) × (p ≡ q)
-parts h p i q small large e = let first : h ≡ i = omega arith in (first, omega arith)
+pair_parts h p i q small large e = let first : h ≡ i = omega arith in (first, omega arith)
 
 -- A range whose key is between the key of the next number and that of a held range is held.
 pub held_between : (after customer : ℕ) (s c : ℕ × ℕ) (r q : Range) → AreCapitals s → AreCapitals c
@@ -87,7 +87,7 @@ held_between after customer s c r q cs cc fit small large g le lt =
     let fits1 : pair_of s c < 4294967296 = pair_fits s c cs cc in
     let fits2 : pair_of r.service r.country < 4294967296 = pair_fits r.service r.country fit.service
     fit.country in
-    let both = parts customer (pair_of s c) r.holder (pair_of r.service r.country) fits1 fits2
+    let both = pair_parts customer (pair_of s c) r.holder (pair_of r.service r.country) fits1 fits2
     same in
     let letters = one_pair s c r.service r.country cs cc fit.service fit.country both.1 in
     record {

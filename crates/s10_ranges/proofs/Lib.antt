@@ -10,3 +10,5 @@ pub mod Following
 pub mod Earlier
 pub mod Moving
 pub mod Opening
+pub mod Resting
+pub mod Awake

@@ -6,3 +6,4 @@ pub mod Laps
 pub mod ClosedRanges
 pub mod Mirror
 pub mod Moves
+pub mod Rests

@@ -14,6 +14,8 @@ mod mark_move;
 mod next_mark;
 mod order;
 mod ranges;
+mod rest;
+mod rests;
 mod sort_key;
 
 pub use hash_seed::HashSeed;
@@ -21,3 +23,5 @@ pub use lap::Lap;
 pub use mark::Mark;
 pub use mark_move::MarkMove;
 pub use ranges::Ranges;
+pub use rest::Rest;
+pub use rests::Rests;

@@ -1,7 +1,9 @@
 //! Look-ups among ranges by binary search in their orders.
 
-ghost use Rattle.std.specs.Prelude.{◌≡◌, ◌-◌, ◌<◌, ◌==◌, find, slice_get, None};
+ghost use Rattle.std.specs.Prelude.{◌≡◌, ◌-◌, ◌<◌, ◌==◌, find, slice_get, slice_index_or, None};
 ghost use Rattle.s10_history.specs.History.{is_held_after, overlaps};
+ghost use Rattle.s10_ranges.specs.Rests.{is_awake_after, is_resting_at as rests_at};
+ghost use Rattle.s10_ranges.specs.declared.rest.Rest.TheVariants.{Unknown};
 ghost use Rattle.s10_ranges.specs.declared.sort_key.SortKey.TheVariants.{First, Last, Holder};
 ghost use Rattle.s10_ranges.specs.Keys.{key_by};
 ghost use Rattle.s10_ranges.specs.Order.{IsOrder};
@@ -10,9 +12,10 @@ ghost use Rattle.s10_ranges.specs.Sound.{AreSound};
 use crate::keys::{holder_sort_key, serial_sort_key};
 use crate::mark::Mark;
 use crate::order::{first_at, least_in};
+use crate::rest::Rest;
 use crate::sort_key::SortKey;
 use s10_core::{Country, Serial, Service};
-use s10_history::Range;
+use s10_history::{HolderKey, Range};
 
 pub(crate) fn range_in(ranges: &[Range], num: u32) -> Option<Range>
     requires sound { AreSound ranges.now }
@@ -62,6 +65,52 @@ pub(crate) fn next_held_in(
     } else {
         None
     }
+}
+
+// Returns whether the range at the index gives nothing on the day, by its mark and its rest.
+fn is_resting_at(marks: &[Mark], rests: &[Rest], place: usize, day: u32, interval: u32) -> bool
+    ensures { result ≡ rests_at (slice_get marks.now place) (slice_index_or rests.now place Unknown)
+        day interval }
+{
+    let rest = rests.get(place).copied().unwrap_or(Rest::Unknown);
+    match marks.get(place).copied() {
+        None => false,
+        Some(mark) => rest.lasts(mark.serial, day, interval),
+    }
+}
+
+// Returns the awake range of the holder key with the least number above `after`.
+pub(crate) fn next_awake_in(
+    ranges: &[Range],
+    by_holder: &[u32],
+    marks: &[Mark],
+    rests: &[Rest],
+    held: &HolderKey,
+    after: u32,
+    day: u32,
+    interval: u32,
+) -> Option<Range>
+    requires sound { AreSound ranges.now }
+    requires held { IsOrder (key_by Holder) (key_by Holder) ranges.now by_holder.now }
+    ensures { result ≡ find (is_awake_after marks.now rests.now after held.now.holder
+        held.now.service held.now.country day interval) ranges.now }
+{
+    let low = holder_sort_key(
+        held.holder,
+        held.service,
+        held.country,
+        u128::from(after) + 1,
+    );
+    let start = first_at(ranges, by_holder, SortKey::Holder, low);
+    let high = holder_sort_key(held.holder, held.service, held.country, 4_294_967_296);
+    let end = first_at(ranges, by_holder, SortKey::Holder, high);
+    for at in start..end {
+        let place = by_holder[at] as usize;
+        if !is_resting_at(marks, rests, place, day, interval) {
+            return Some(ranges[place]);
+        }
+    }
+    None
 }
 
 pub(crate) fn covering_in(

@@ -14,12 +14,13 @@ use crate::hash_seed::HashSeed;
 use crate::insertion::{index_by_holder, index_by_serial};
 use crate::lap::Lap;
 use crate::lap_at::lap_at;
-use crate::lookups::{covering_in, mark_in, next_held_in, range_in};
+use crate::lookups::{covering_in, mark_in, next_awake_in, next_held_in, range_in};
 use crate::mark::Mark;
 use crate::mark_move::MarkMove;
 use crate::next_mark::next_mark;
+use crate::rests::Rests;
 use s10_core::{Country, Serial, Service};
-use s10_history::{Entry, Range};
+use s10_history::{Entry, HolderKey, Range};
 use s10_wire::Outcome;
 use std::alloc::{AllocError, Global};
 
@@ -60,6 +61,7 @@ impl Ranges {
     ghost use Rattle.s10_ranges.specs.Mirror.{Mirrors, MirrorsAt};
     ghost use Rattle.s10_ranges.specs.Moves.{AreMoves, IsMoveOf};
     ghost use Rattle.s10_ranges.specs.Room.{HasRoom};
+    ghost use Rattle.s10_ranges.specs.Rests.{is_awake_after};
 
     /// Creates an empty list of ranges. The hashes of its set have this seed.
     pub fn new(alloc: Global, seed: HashSeed) -> Ranges
@@ -317,6 +319,33 @@ impl Ranges {
             past = range.num;
         }
         None
+    }
+
+    /// Returns the range of least number above `after` with that holder, service and country that may
+    /// give something on `day`, by its mark and its rest, or `None`.
+    ///
+    /// Takes one comparison for each range that it passes over.
+    pub fn next_awake_range(
+        &self,
+        rests: &Rests,
+        held: &HolderKey,
+        after: u32,
+        day: u32,
+        interval: u32,
+    ) -> Option<Range>
+        ensures { result ≡ find (is_awake_after self.now.marks.items rests.now.list.items after
+            held.now.holder held.now.service held.now.country day interval) self.now.ranges.items }
+    {
+        next_awake_in(
+            &self.ranges,
+            &self.by_holder,
+            &self.marks,
+            rests.all(),
+            held,
+            after,
+            day,
+            interval,
+        )
     }
 
     /// Returns the range of least number with that service and country that has a serial from

@@ -1,0 +1,73 @@
+-- Defines what is known of ranges that give nothing for a while.
+use Rattle.std.specs.Prelude.{◌≡◌, ℕ, ◌-◌, ◌==◌, ◌≤◌, ◌<◌, nat_lt, Bool, true, false, not, ◌&&◌, ⊤}
+use Rattle.std.specs.Prelude.{List, length, Option, Some, None, slice_get, slice_index_or, vec_len}
+use Rattle.std.specs.Prelude.{vec_capacity, if◌then◌else◌}
+use Rattle.s10_core.specs.declared.id.Id.{Id}
+use Rattle.s10_history.specs.declared.entry.Entry.{Entry}
+use Rattle.s10_history.specs.declared.range.Range.{Range}
+use Rattle.s10_history.specs.declared.issue.Issue.{Issue}
+use Rattle.s10_history.specs.declared.issuance.Issuance.{Issuance}
+use Rattle.s10_history.specs.History.{ranges_of, is_closed, is_held}
+use Rattle.s10_history.specs.Issues.{issues_of, last_issuance_of, last_issue_of, pick_of, id_at}
+use Rattle.s10_ranges.specs.declared.mark.Mark.{Mark}
+use Rattle.s10_ranges.specs.declared.rest.Rest.{Rest}
+use Rattle.s10_ranges.specs.declared.rest.Rest.TheVariants.{Unknown, Issued, Closed}
+use Rattle.s10_ranges.specs.declared.rests.Rests.{Rests}
+
+-- Whether a range with this rest gives nothing on the day, by the serial that it gives next.
+abbrev pub is_resting : Rest → ℕ → ℕ → ℕ → Bool
+is_resting Unknown pick day interval = false
+is_resting (Issued serial last) pick day interval = (serial == pick) && nat_lt (day - last) interval
+is_resting Closed pick day interval = true
+
+-- The identifier was last issued on that day, or later.
+abbrev pub IsIssuedSince : List Issuance → Id → ℕ → Type 0
+IsIssuedSince is x day = (i : Issuance) × (last_issuance_of is x ≡ Some i) × (day ≤ i.day)
+
+-- A rest is one of a range of the history if what it says is so.
+abbrev pub IsRestOf : List Entry → Range → Rest → Type 0
+IsRestOf h r Unknown = ⊤
+IsRestOf h r (Issued serial day) = IsIssuedSince (issues_of h) (id_at r serial) day
+IsRestOf h r Closed = is_closed h r.num ≡ true
+
+-- The rests are those of the history's ranges, in order of their numbers.
+pub record AreRests (h : List Entry) (rests : List Rest) : Type 0 where
+  pub count : length rests ≡ length (ranges_of h)
+  pub each : (k : ℕ) (d : Range) → k < length (ranges_of h)
+      → IsRestOf h (slice_index_or (ranges_of h) k d) (slice_index_or rests k Unknown)
+
+-- Memory is reserved for one more rest.
+abbrev pub HasRoomForRest : Rests → Type 0
+HasRoomForRest rests = vec_len rests.list < vec_capacity rests.list
+
+-- The rest of a range whose pick has that last issue.
+abbrev pub rest_by_issue : ℕ → Option Issue → Rest
+rest_by_issue pick None = Unknown
+rest_by_issue pick (Some i) = Issued pick i.day
+
+-- The rest of a range: closed, or the last issue of its pick.
+abbrev pub rest_of : List Entry → Range → Rest
+rest_of h r = let pick = pick_of (issues_of h) r in
+    if is_closed h r.num then Closed else rest_by_issue pick (last_issue_of h (id_at r pick))
+
+-- Whether a range with this mark and this rest gives nothing on the day.
+abbrev pub is_resting_at : Option Mark → Rest → ℕ → ℕ → Bool
+is_resting_at None rest day interval = false
+is_resting_at (Some mark) rest day interval = is_resting rest mark.serial day interval
+
+-- Whether the range gives nothing on the day, by the marks and rests of all ranges.
+abbrev pub rests_on : List Mark → List Rest → ℕ → ℕ → Range → Bool
+rests_on marks rests day interval r =
+    is_resting_at (slice_get marks (r.num - 1)) (slice_index_or rests (r.num - 1) Unknown) day
+    interval
+
+-- Whether the customer holds the range, it has this service and country, and it may give something
+-- on the day.
+abbrev pub is_awake : List Mark → List Rest → ℕ → ℕ × ℕ → ℕ × ℕ → ℕ → ℕ → Range → Bool
+is_awake marks rests customer service country day interval r =
+    is_held customer service country r && not (rests_on marks rests day interval r)
+
+-- Whether the range is awake so, and its number is above `after`.
+abbrev pub is_awake_after : List Mark → List Rest → ℕ → ℕ → ℕ × ℕ → ℕ × ℕ → ℕ → ℕ → Range → Bool
+is_awake_after marks rests after customer service country day interval r =
+    nat_lt after r.num && is_awake marks rests customer service country day interval r
