@@ -6,7 +6,7 @@ use Rattle.std.proofs.lemmas.List.{length-append}
 use Rattle.std.specs.Prelude.{Contains, is_some, option_to_list}
 use Rattle.std.specs.Option.{option_map}
 use Rattle.std.proofs.lemmas.Bool.{false≢true, and_parts, and_cases, and_left, and_right, or_left}
-use Rattle.std.proofs.lemmas.Bool.{eqb-true, ltb-true, lt-leb, not_from_true, not-false, cases_lt, cases_eq}
+use Rattle.std.proofs.lemmas.Bool.{eqb-true, ltb-true, lt-leb, le-leb, leb-true, not_from_true, not-false, cases_lt, cases_eq}
 use Rattle.std.proofs.lemmas.Option.{none-some}
 use Rattle.std.proofs.lemmas.List.{get_or_append_left, get_or-set_same, get_or-set_other, length-set}
 use Rattle.std.proofs.lemmas.List.{get_or_default}
@@ -39,9 +39,27 @@ use Rattle.s10_ranges.specs.declared.rest.Rest.TheVariants.{Unknown, Issued, Clo
 use Rattle.s10_ranges.specs.declared.ranges.Ranges.{Ranges}
 use Rattle.s10_ranges.specs.Mirror.{Mirrors}
 use Rattle.s10_ranges.specs.Sound.{AreSound}
-use Rattle.s10_ranges.specs.Rests.{is_resting, is_resting_at, rests_on, is_awake, IsIssuedSince}
+use Rattle.s10_ranges.specs.Rests.{is_resting, is_resting_at, rests_on, is_awake, is_issued_since, is_rest_of}
 use Rattle.s10_ranges.specs.Rests.{IsRestOf, AreRests}
 use Rattle.s10_ranges.proofs.Marked.{mark_held}
+
+-- The identifier was last issued on that day, or later.
+abbrev pub IsIssuedSince : List Issuance → Id → ℕ → Type 0
+IsIssuedSince is x day = (i : Issuance) × (last_issuance_of is x ≡ Some i) × (day ≤ i.day)
+
+since_passes : (is : List Issuance) (x : Id) (day : ℕ)
+    → is_issued_since (last_issuance_of is x) day ≡ true → IsIssuedSince is x day
+since_passes is x day passes = at (last_issuance_of is x) refl passes
+  where
+    at : (o : Option Issuance) → last_issuance_of is x ≡ o → is_issued_since o day ≡ true
+        → IsIssuedSince is x day
+    at None e hit = absurd (false≢true hit)
+    at (Some i) e hit = (i, e, leb-true day i.day hit)
+
+pub passes_since : (is : List Issuance) (x : Id) (day : ℕ) → IsIssuedSince is x day
+    → is_issued_since (last_issuance_of is x) day ≡ true
+passes_since is x day since =
+    ap (λ o. is_issued_since o day) since.1 ∙ le-leb day since.0.day since.2
 
 -- One more issuance, on no earlier day.
 since_more : (is : List Issuance) (y : Issuance) (x : Id) (day : ℕ) → day ≤ y.day
@@ -73,15 +91,17 @@ since_follows h t e legal may x day since =
 
 rest_follows : (h : List Entry) (t : Terms) (e : Entry) → IsLegal h t → MayFollow h t e
     → (r : Range) (rest : Rest) → IsRestOf h r rest → IsRestOf (h ++ e ∷ []) r rest
-rest_follows h t e legal may r Unknown is = tt
+rest_follows h t e legal may r Unknown is = refl
 rest_follows h t e legal may r (Issued serial day) since =
-    since_follows h t e legal may (id_at r serial) day since
+    passes_since (issues_of (h ++ e ∷ [])) (id_at r serial) day
+    (since_follows h t e legal may (id_at r serial) day
+    (since_passes (issues_of h) (id_at r serial) day since))
 rest_follows h t e legal may r Closed closed =
     list_any-append (λ (f : Entry). withdraws r.num f.request.body f.outcome) h (e ∷ [])
     ∙ or_left _ _ closed
 
 unknown_rest : (h : List Entry) (r : Range) (rest : Rest) → rest ≡ Unknown → IsRestOf h r rest
-unknown_rest h r rest is = subst (IsRestOf h r) (sym is) tt
+unknown_rest h r rest is = ap (is_rest_of h r) is
 
 -- Whether a call creates a range does not depend on the number of the range.
 made_any : (n m : ℕ) (b : Body) (o : Outcome) → is_some (range_of_grant n b o)
@@ -195,7 +215,8 @@ rest_gives h customer s c day n r Closed closed resting =
     and_left (is_open h customer s c r) (has_free_pick (issues_of h) day n r)
     (and_right (is_held customer s c r) (not (is_closed h r.num))
     (not_from_true (is_closed h r.num) closed))
-rest_gives h customer s c day n r (Issued serial last) since resting =
+rest_gives h customer s c day n r (Issued serial last) known resting =
+    let since = since_passes (issues_of h) (id_at r serial) last known in
     let test = and_parts (eqb serial (pick_of (issues_of h) r)) (ltb (day - last) n) resting in
     let same : serial ≡ pick_of (issues_of h) r =
     eqb-true serial (pick_of (issues_of h) r) test.0 in

@@ -1,8 +1,7 @@
 -- Defines what is known of ranges that give nothing for a while.
-use Rattle.std.specs.Prelude.{◌≡◌, ℕ, ◌-◌, ◌==◌, ◌≤◌, ◌<◌, nat_lt, Bool, true, false, not, ◌&&◌, ⊤}
+use Rattle.std.specs.Prelude.{◌≡◌, ℕ, ◌-◌, ◌==◌, ◌<◌, nat_lt, nat_le, Bool, true, false, not, ◌&&◌}
 use Rattle.std.specs.Prelude.{List, length, Option, Some, None, slice_get, slice_index_or, vec_len}
 use Rattle.std.specs.Prelude.{vec_capacity, if◌then◌else◌}
-use Rattle.s10_core.specs.declared.id.Id.{Id}
 use Rattle.s10_history.specs.declared.entry.Entry.{Entry}
 use Rattle.s10_history.specs.declared.range.Range.{Range}
 use Rattle.s10_history.specs.declared.issue.Issue.{Issue}
@@ -20,15 +19,21 @@ is_resting Unknown pick day interval = false
 is_resting (Issued serial last) pick day interval = (serial == pick) && nat_lt (day - last) interval
 is_resting Closed pick day interval = true
 
--- The identifier was last issued on that day, or later.
-abbrev pub IsIssuedSince : List Issuance → Id → ℕ → Type 0
-IsIssuedSince is x day = (i : Issuance) × (last_issuance_of is x ≡ Some i) × (day ≤ i.day)
+-- Whether the last issuance was on that day, or later.
+abbrev pub is_issued_since : Option Issuance → ℕ → Bool
+is_issued_since None day = false
+is_issued_since (Some i) day = nat_le day i.day
+
+-- Whether what the rest of a range says is so in the history.
+abbrev pub is_rest_of : List Entry → Range → Rest → Bool
+is_rest_of h r Unknown = true
+is_rest_of h r (Issued serial day) =
+    is_issued_since (last_issuance_of (issues_of h) (id_at r serial)) day
+is_rest_of h r Closed = is_closed h r.num
 
 -- A rest is one of a range of the history if what it says is so.
 abbrev pub IsRestOf : List Entry → Range → Rest → Type 0
-IsRestOf h r Unknown = ⊤
-IsRestOf h r (Issued serial day) = IsIssuedSince (issues_of h) (id_at r serial) day
-IsRestOf h r Closed = is_closed h r.num ≡ true
+IsRestOf h r rest = is_rest_of h r rest ≡ true
 
 -- The rests are those of the history's ranges, in order of their numbers.
 pub record AreRests (h : List Entry) (rests : List Rest) : Type 0 where
