@@ -3,7 +3,8 @@ use Rattle.std.proofs.Common.{◌≡◌, ◌++◌, ◌∙◌, refl, sym, ap, Lis
 use Rattle.std.proofs.Common.{append_assoc, Option, subst, inl, inr, ⊎_elim}
 use Rattle.s10_history.specs.declared.entry.Entry.{Entry}
 use Rattle.s10_history.specs.Settings.{Terms}
-use Rattle.s10_book.specs.Book.{Grows, FindsAfter, IsPerhapsWith, Unchanged}
+use Rattle.s10_book.specs.Book.{Grows, FindsAfter, IsBetween, IsPerhapsWith, Unchanged}
+use Rattle.s10_book.specs.GroupCommit.{CommitsSome}
 
 pub grows_none : (xs : List Entry) → Grows xs xs
 grows_none xs = ([], sym (append-nil xs))
@@ -71,6 +72,77 @@ Unchanged-trans {B} {history} {committed} {terms} {honest} {clean} {may_find} {a
           (first.stays_committed (second.was_honest h)) (second.stays_committed h);
       stop = finds_after_unchanged (λ calls. calls ≡ history b) (λ calls. calls ≡ history a) first
           second.stop (λ h calls same. same) (λ h calls same. same ∙ first.same_history h);
+    }
+
+-- A call that leaves a book unchanged commits none of the pending calls, or all.
+pub commits_unchanged : {B : Type 0} {history committed : B → List Entry} {terms : B → Terms}
+    {honest clean : B → Type 0} {may_find : B → Option (List Entry) → Type 0} {a b : B}
+    → (honest a → Grows (committed a) (history a))
+    → Unchanged history committed terms honest clean may_find a b
+    → CommitsSome history committed terms honest clean may_find a b
+commits_unchanged {B} {history} {committed} {terms} {honest} {clean} {may_find} {a} {b} first
+    unchanged = record {
+      was_honest = unchanged.was_honest;
+      same_history = unchanged.same_history;
+      same_terms = unchanged.same_terms;
+      stays_committed = unchanged.stays_committed;
+      stop = record {
+        was_clean = unchanged.stop.was_clean;
+        finds = λ c found may. ⊎_elim inl (λ it. inr (
+          it.0,
+          (
+            it.1.0,
+            it.1.1,
+            (
+              subst (Grows (committed a)) (sym it.1.2) (first it.0),
+              grows_same it.1.0 (history a) (sym it.1.2),
+            ),
+          ),
+        )) (unchanged.stop.finds c found may);
+      };
+    }
+
+pub CommitsSome-refl : {B : Type 0} {history committed : B → List Entry} {terms : B → Terms}
+    {honest clean : B → Type 0} {may_find : B → Option (List Entry) → Type 0} (a : B)
+    → CommitsSome history committed terms honest clean may_find a a
+CommitsSome-refl {B} {history} {committed} {terms} {honest} {clean} {may_find} a =
+    record {
+      was_honest = λ h. h;
+      same_history = λ _. refl;
+      same_terms = λ _. refl;
+      stays_committed = λ _. grows_none (committed a);
+      stop = FindsAfter-refl a (IsBetween (committed a) (history a));
+    }
+
+pub CommitsSome-trans : {B : Type 0} {history committed : B → List Entry} {terms : B → Terms}
+    {honest clean : B → Type 0} {may_find : B → Option (List Entry) → Type 0} {a b c : B}
+    → CommitsSome history committed terms honest clean may_find a b
+    → CommitsSome history committed terms honest clean may_find b c
+    → CommitsSome history committed terms honest clean may_find a c
+CommitsSome-trans {B} {history} {committed} {terms} {honest} {clean} {may_find} {a} {b} {c} first
+    second = record {
+      was_honest = λ h. first.was_honest (second.was_honest h);
+      same_history = λ h. second.same_history h ∙ first.same_history (second.was_honest h);
+      same_terms = λ h. second.same_terms h ∙ first.same_terms (second.was_honest h);
+      stays_committed = λ h. grows_trans (committed a) (committed b) (committed c)
+          (first.stays_committed (second.was_honest h)) (second.stays_committed h);
+      stop = record {
+        was_clean = λ d. first.stop.was_clean (second.stop.was_clean d);
+        finds = λ d found may. ⊎_elim (first.stop.finds (second.stop.was_clean d) found)
+            (λ it. inr (
+              first.was_honest it.0,
+              (
+                it.1.0,
+                it.1.1,
+                (
+                  grows_trans (committed a) (committed b) it.1.0 (first.stays_committed it.0)
+                      it.1.2.0,
+                  subst (Grows it.1.0) (first.same_history it.0) it.1.2.1,
+                ),
+              ),
+            ))
+            (second.stop.finds d found may);
+      };
     }
 
 -- The same for one more call at the end.

@@ -1,11 +1,12 @@
 -- A legal history grew by one call after another.
 use Rattle.std.proofs.Common.{◌≡◌, ℕ, zero, suc, ◌<◌, ◌≤◌, Bool, true, false, cond, eqb, List, []}
 use Rattle.std.proofs.Common.{◌∷◌, ◌++◌, Option, Some, None, refl, sym, ap, arith, subst, length}
-use Rattle.std.proofs.Common.{get_or, take, length-take, get_or-take, take_all}
-use Rattle.std.specs.Prelude.{find, fold, All, IsTrue, slice_get}
+use Rattle.std.proofs.Common.{get_or, take, length-take, get_or-take, take_all, ◌∙◌, length-append}
+use Rattle.std.specs.Prelude.{find, fold, All, IsTrue, slice_get, ⊤}
 use Rattle.std.proofs.lemmas.Bool.{both_ways, false_from_ne_true, eqb-true, eq-eqb, and_parts}
 use Rattle.std.proofs.lemmas.Bool.{and_from}
 use Rattle.std.proofs.lemmas.Option.{get_or_from_slice_get, slice_get_within}
+use Rattle.std.proofs.lemmas.List.{take-append-le}
 use Rattle.std.proofs.lemmas.List.Elements.{All-head, All-tail}
 use Rattle.s10_history.specs.declared.entry.Entry.{Entry}
 use Rattle.s10_history.specs.Settings.{Terms}
@@ -95,6 +96,13 @@ grown P h t legal base step (suc n) le =
       IsLegal-push (take n h) t next.0 before.0 may,
       step (take n h) next.0 before.0 before.1 may,
     )
+
+-- The first calls of a legal history are one.
+pub IsLegal-first : (g rest : List Entry) (t : Terms) → IsLegal (g ++ rest) t → IsLegal g t
+IsLegal-first g rest t legal = subst (λ (l : List Entry). IsLegal l t)
+    (take-append-le (length g) g rest (omega arith) ∙ take_all (length g) g (omega arith))
+    (grown (λ _. ⊤) (g ++ rest) t legal tt (λ _ _ _ _ _. tt) (length g)
+    (omega (arith, length-append g rest))).0
 
 -- A property of the empty history that each call preserves holds of every legal history.
 pub legal_induction : (P : List Entry → Type 0) (h : List Entry) (t : Terms) → IsLegal h t → P []

@@ -13,8 +13,8 @@ pub const MAX_BATCH: u32 = 64;
 pub trait GroupCommit: Book {
     ghost use Rattle.s10_book.specs.Rules.{MayFollow};
     ghost use Rattle.s10_book.specs.BookFault.{CountsResult};
-    ghost use Rattle.s10_book.specs.Book.{Grows, FindsAfter, IsPerhapsWith, Unchanged};
-    ghost use Rattle.s10_book.specs.GroupCommit.{IsCommittedCall};
+    ghost use Rattle.s10_book.specs.Book.{Grows, FindsAfter, IsPerhapsWith};
+    ghost use Rattle.s10_book.specs.GroupCommit.{IsCommittedCall, CommitsSome};
     ghost use Rattle.s10_history.specs.declared.entry.Entry.{Entry};
     ghost use Rattle.s10_book.specs.declared.book_fault.BookFault.{BookFault};
     ghost use Rattle.std.specs.Prelude.{◌≡◌, ◌↔◌, ◌++◌, ◌∷◌, [], ⊤, Result, IsTrue, OnErr, OnOk};
@@ -27,7 +27,7 @@ pub trait GroupCommit: Book {
     /// # Errors
     ///
     /// - `Memory` if memory is refused.
-    /// - `Store` if the store fails.
+    /// - `Store` if the store fails, or if as many calls are pending as the book can hold.
     fn append(&mut self, entry: Entry) -> Result<(), BookFault>
         requires { Self.honest self.old → MayFollow (Self.history self.old) (Self.terms self.old)
             entry }
@@ -45,8 +45,8 @@ pub trait GroupCommit: Book {
             (IsPerhapsWith (Self.history self.old) entry) }
         ensures appends { Self.appends self.old self.new entry result };
 
-    /// Commits all pending calls. After an error the committed calls of an honest book are the same
-    /// as before.
+    /// Commits all pending calls. After an error an honest book may have committed the first of
+    /// them; the others are still pending.
     ///
     /// # Errors
     ///
@@ -54,13 +54,11 @@ pub trait GroupCommit: Book {
     /// - `Store` if the store fails.
     fn commit(&mut self) -> Result<(), BookFault>
         ensures faults { CountsResult result (Self.faults self.old) (Self.faults self.new) }
-        ensures unchanged { Unchanged Self.history Self.committed Self.terms Self.honest Self.clean
+        ensures commits_some { CommitsSome Self.history Self.committed Self.terms Self.honest Self.clean
             Self.may_find self.old self.new }
         ensures opened { Self.clean self.new → OnOk result (Self.honest self.new) }
         ensures done { Self.honest self.new
-            → OnOk result (Self.committed self.new ≡ Self.history self.new) }
-        ensures left { Self.honest self.new
-            → OnErr result (Self.committed self.new ≡ Self.committed self.old) };
+            → OnOk result (Self.committed self.new ≡ Self.history self.new) };
 
     /// Returns whether no pending call has this key.
     fn is_committed(&self, customer: u32, number: u32) -> bool
