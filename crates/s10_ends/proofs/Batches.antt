@@ -137,8 +137,10 @@ module _ {B : Type 0} (faults : B → Faults) (honest : B → Type 0) (terms : B
       commits = inr (
         refl,
         refl,
-        λ h. All-nil (HasCommittedReply (committed between.1)
-            (history between.1)),
+        λ h. record {
+          replies = All-nil (HasCommittedReply (committed between.1) (history between.1));
+          faults = λ failed. absurd cc;
+        },
       );
       answers = answered_none;
     };
@@ -199,17 +201,20 @@ module _ {B : Type 0} (faults : B → Faults) (honest : B → Type 0) (terms : B
       (inr (
         refl,
         refl,
-        λ h. All-cons (HasCommittedReply (committed between.1) (history between.1))
-            taken []
-            (λ reply.
-            let asks = owed_asks (history between.1) taken.packet taken.answer reply
-            (handled.served h).answered.0 in (
-              asks.0,
-              asks.1,
-              ap (λ (l : List Entry). find_entry l asks.0.customer asks.0.number)
-                  (whole h),
-            ))
-            (All-nil (HasCommittedReply (committed between.1) (history between.1))),
+        λ h. record {
+          replies = All-cons (HasCommittedReply (committed between.1) (history between.1))
+              taken []
+              (λ reply.
+              let asks = owed_asks (history between.1) taken.packet taken.answer reply
+              (handled.served h).answered.0 in (
+                asks.0,
+                asks.1,
+                ap (λ (l : List Entry). find_entry l asks.0.customer asks.0.number)
+                    (whole h),
+              ))
+              (All-nil (HasCommittedReply (committed between.1) (history between.1)));
+          faults = λ failed. whole h;
+        },
       ))
       (answered_committed (honest between.1) (AsksCommitted (committed between.1)
       (history between.1))

@@ -72,7 +72,7 @@ module _ {B : Type 0} (faults : B → Faults) (honest : B → Type 0) (terms : B
       → CommitsIfPending faults honest terms history committed clean may_find between new ts
       commit_result
       → honest new → honest between
-  honest_answered between new ts commit_result (inl it) h = it.2.unchanged.was_honest h
+  honest_answered between new ts commit_result (inl it) h = it.1.commits_some.was_honest h
   honest_answered between new ts commit_result (inr it) h = subst honest it.0 h
 
   pub honest_batch : (old new : Trace × B) (batch : DatedBatch) → IsBatch faults honest terms history
@@ -156,14 +156,14 @@ module _ {B : Type 0} (faults : B → Faults) (honest : B → Type 0) (terms : B
     upto_answered ds ans between new ts commit_result (inr it) h upto =
         upto_same ds ans between new it.0 upto
     upto_answered ds ans between new ts commit_result (inl it) h upto =
-        let unchanged = it.2.unchanged in
+        let commits_some = it.1.commits_some in
         record {
-          same_terms = unchanged.same_terms h ∙ upto.same_terms;
+          same_terms = commits_some.same_terms h ∙ upto.same_terms;
           served = subst (λ (l : List Entry). Served start t ds ans l)
-              (sym (unchanged.same_history h)) upto.served;
+              (sym (commits_some.same_history h)) upto.served;
           stays_committed = grows_trans kept (committed between) (committed new)
               upto.stays_committed
-              (unchanged.stays_committed h);
+              (commits_some.stays_committed h);
         }
 
     pub upto_batch : (ds : List Dated) (ans : List Answer) (day most : ℕ) (old new : Trace × B)

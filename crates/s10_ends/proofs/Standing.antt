@@ -251,7 +251,7 @@ module _ {B : Type 0} (faults : B → Faults) (honest : B → Type 0) (terms : B
       → honest new → honest old × (history new ≡ history old)
   by_commit old new ts commit_result (inr it) h = (subst honest it.0 h, ap history it.0)
   by_commit old new ts commit_result (inl it) h =
-      (it.2.unchanged.was_honest h, it.2.unchanged.same_history h)
+      (it.1.commits_some.was_honest h, it.1.commits_some.same_history h)
 
   all_done : (old new : B) (ts : List Exchange) (commit_result : Result (Unit {0}) BookFault)
       (ds : List Dated)
@@ -261,11 +261,11 @@ module _ {B : Type 0} (faults : B → Faults) (honest : B → Type 0) (terms : B
       → All (IsDone (honest new) (committed new) (history new) ds day h commit_result) ts
   all_done old new ts commit_result ds (inl it) h =
       done_by_commit (honest new) (committed new) (history new) ds day h commit_result ts
-      (it.2.done h)
+      (it.1.done h)
   all_done old new ts commit_result ds (inr it) h =
       done_before (honest new) (committed new) (history new) ds day h commit_result ts it.1
       (subst (λ (b : B). AllCommitted (committed b) (history b) ts) (sym it.0)
-      (it.2 (subst honest it.0 h)))
+      (it.2 (subst honest it.0 h)).replies)
 
   -- The datagrams of a batch are among the deliveries.
   pub inside_of : (ts : List Exchange) (ds : List Dated)

@@ -11,6 +11,7 @@ use Rattle.s10_history.specs.Settings.{Terms}
 use Rattle.s10_book.specs.declared.book_fault.BookFault.{BookFault}
 use Rattle.s10_book.specs.declared.faults.Faults.{Faults}
 use Rattle.s10_book.specs.Book.{Grows, FindsAfter, IsBetween, IsPerhapsWith, Unchanged}
+use Rattle.s10_book.specs.GroupCommit.{CommitsSome}
 use Rattle.s10_book.specs.Once.{first_arrivals, applied_once}
 use Rattle.s10_book.specs.Rules.{IsLegal}
 use Rattle.s10_book.proofs.Calls.{grows_none, grows_same, grows_trans, finds_after_unchanged}
@@ -150,10 +151,10 @@ module _ {B : Type 0} (terms : B → Terms) (history committed : B → List Entr
   pub stops_same : (a b : B) (ds : List Dated) → b ≡ a → Stops a b ds
   stops_same a b ds same = subst (λ (x : B). Stops a x ds) (sym same) (stops_none a ds)
 
-  pub stops_unchanged : (a b : B) → (honest a → Grows (committed a) (history a))
-      → Unchanged history committed terms honest clean may_find a b → Stops a b []
-  stops_unchanged a b first unchanged = record {
-    was_clean = unchanged.stop.was_clean;
+  pub stops_committed : (a b : B) → CommitsSome history committed terms honest clean may_find a b
+      → Stops a b []
+  stops_committed a b commits_some = record {
+    was_clean = commits_some.stop.was_clean;
     finds = λ c found may. ⊎_elim inl (λ it. inr (
       it.0,
       (
@@ -161,16 +162,9 @@ module _ {B : Type 0} (terms : B → Terms) (history committed : B → List Entr
         history a,
         none,
         ([], asked_none, refl),
-        (
-          it.1.0,
-          it.1.1,
-          (
-            subst (Grows (committed a)) (sym it.1.2) (first it.0),
-            grows_same it.1.0 (history a) (sym it.1.2),
-          ),
-        ),
+        it.1,
       ),
-    )) (unchanged.stop.finds c found may);
+    )) (commits_some.stop.finds c found may);
   }
 
   -- One request that was applied, or was about to be.
@@ -284,24 +278,21 @@ module _ {B : Type 0} (faults : B → Faults) (honest : B → Type 0) (terms : B
       (λ h. (upto h).same_terms) (λ h. (upto h).served) (λ h. (upto h).stays_committed)
       last.1.stop)
 
-  stops_answered : ((book : B) → honest book → Grows (committed book) (history book))
-      → (between new : B) (ts : List Exchange) (commit_result : Result (Unit {0}) BookFault)
+  stops_answered : (between new : B) (ts : List Exchange) (commit_result : Result (Unit {0}) BookFault)
       → CommitsIfPending faults honest terms history committed clean may_find between new ts
       commit_result → StopsIn between new []
-  stops_answered first_law between new ts commit_result (inr it) =
+  stops_answered between new ts commit_result (inr it) =
       stops_same terms history committed honest clean may_find between new [] it.0
-  stops_answered first_law between new ts commit_result (inl it) =
-      stops_unchanged terms history committed honest clean may_find between new (first_law between)
-      it.2.unchanged
+  stops_answered between new ts commit_result (inl it) =
+      stops_committed terms history committed honest clean may_find between new it.1.commits_some
 
-  pub stops_batch : ((book : B) → honest book → Grows (committed book) (history book))
-      → (day most : ℕ) (old new : Trace × B) (batch : List Turn)
+  pub stops_batch : (day most : ℕ) (old new : Trace × B) (batch : List Turn)
       (it : ServesBatch faults honest terms history committed clean may_find day most old new batch)
       → StopsIn old.1 new.1 (sent day it.taken)
-  stops_batch first_law day most old new batch it =
+  stops_batch day most old new batch it =
       let middle = it.takes.handled in
       let after : StopsIn middle.1 new.1 [] = subst (λ (x : B). StopsIn x new.1 []) it.takes.same
-      (stops_answered first_law it.between.1 new.1 it.taken it.answers.commit_result
+      (stops_answered it.between.1 new.1 it.taken it.answers.commit_result
       it.answers.commits) in
       let upto : honest middle.1 → Upto faults honest terms history committed clean may_find
       (history old.1) (terms old.1) (committed old.1) (sent day it.taken) (told it.taken)
@@ -317,17 +308,16 @@ module _ {B : Type 0} (faults : B → Faults) (honest : B → Type 0) (terms : B
       it.taken it.takes.takes)
       (λ h. (upto h).same_terms) (λ h. (upto h).served) (λ h. (upto h).stays_committed) after)
 
-  pub stops_batches : ((book : B) → honest book → Grows (committed book) (history book))
-      → (old new : Trace × B) (batches : List DatedBatch)
+  pub stops_batches : (old new : Trace × B) (batches : List DatedBatch)
       (lead : BatchesLead (IsBatch faults honest terms history committed clean may_find) old
       batches new)
       → StopsIn old.1 new.1 (deliveries_in faults honest terms history committed clean may_find old
       new batches lead)
   unfolding BatchesLead deliveries_in
-  stops_batches first_law old new [] same = stops_same terms history committed honest clean may_find
+  stops_batches old new [] same = stops_same terms history committed honest clean may_find
       old.1
       new.1 [] (ap (λ (s : Trace × B). s.1) same)
-  stops_batches first_law old new (batch ∷ batches) (next, (most, it), rest) =
+  stops_batches old new (batch ∷ batches) (next, (most, it), rest) =
       let upto : honest next.1 → Upto faults honest terms history committed clean may_find
       (history old.1) (terms old.1) (committed old.1) (sent batch.day it.taken) (told it.taken)
       next.1 =
@@ -338,11 +328,11 @@ module _ {B : Type 0} (faults : B → Faults) (honest : B → Type 0) (terms : B
       (sent batch.day it.taken)
       (deliveries_in faults honest terms history committed clean may_find next new batches
       rest)
-      (told it.taken) (stops_batch first_law batch.day most old next batch.turns it)
+      (told it.taken) (stops_batch batch.day most old next batch.turns it)
       (honest_batch faults honest terms history committed clean may_find old next batch
       (most, it))
       (λ h. (upto h).same_terms) (λ h. (upto h).served) (λ h. (upto h).stays_committed)
-      (stops_batches first_law next new batches rest)
+      (stops_batches next new batches rest)
 
   pub survived : ((book : B) → honest book → IsLegal (history book) (terms book))
       → ((book : B) → honest book → Grows (committed book) (history book))
@@ -381,7 +371,7 @@ module _ {B : Type 0} (faults : B → Faults) (honest : B → Type 0) (terms : B
             it.1.3),
         it.1.4,
       ))
-      ((stops_batches first_law between new rest after).finds c found may) in (
+      ((stops_batches between new rest after).finds c found may) in (
         among,
         λ calls is.
             let same : among.4.0 ≡ calls = same_Some among.4.0 calls (sym among.4.1 ∙ is) in

@@ -10,9 +10,10 @@ use Rattle.s10_link.specs.Link.{Receives}
 use Rattle.s10_history.specs.declared.entry.Entry.{Entry}
 use Rattle.s10_history.specs.Settings.{Terms}
 use Rattle.s10_book.specs.declared.book_fault.BookFault.{BookFault}
+use Rattle.s10_book.specs.declared.book_fault.BookFault.TheVariants.{Store}
 use Rattle.s10_book.specs.declared.faults.Faults.{Faults}
 use Rattle.s10_ends.specs.declared.answer.Answer.{Answer}
-use Rattle.s10_ends.specs.declared.answer.Answer.TheVariants.{Reply}
+use Rattle.s10_ends.specs.declared.answer.Answer.TheVariants.{Reply, Faulted}
 use Rattle.s10_ends.specs.declared.exchange.Exchange.{Exchange}
 use Rattle.s10_ends.specs.declared.server_turn.ServerTurn.TheVariants as turns
 use Rattle.s10_ends.specs.Served.{Dated, IsOwed, IsReplyIn}
@@ -50,6 +51,15 @@ is_reply answer = false
 abbrev pub has_reply : List Exchange → Bool
 has_reply taken = list_any (λ (t : Exchange). is_reply t.answer) taken
 
+-- Whether the store failed for the datagram.
+abbrev pub is_store_fault : Answer → Bool
+is_store_fault (Faulted Store) = true
+is_store_fault answer = false
+
+-- Whether the store failed for some datagram of a batch.
+abbrev pub has_store_fault : List Exchange → Bool
+has_store_fault taken = list_any (λ (t : Exchange). is_store_fault t.answer) taken
+
 -- If the exchange has a reply, its own call is committed.
 abbrev pub HasCommittedReply : List Entry → List Entry → Exchange → Type 0
 HasCommittedReply committed h taken = is_reply taken.answer ≡ true
@@ -58,6 +68,18 @@ HasCommittedReply committed h taken = is_reply taken.answer ≡ true
 -- Each reply of these exchanges is to a committed call.
 abbrev pub AllCommitted : List Entry → List Entry → List Exchange → Type 0
 AllCommitted committed h taken = All (HasCommittedReply committed h) taken
+
+-- These exchanges need a commit: the store failed for one of them, or a reply is to a call that is
+-- not committed.
+abbrev pub NeedCommit : Type 0 → List Entry → List Entry → List Exchange → Type 0
+NeedCommit Honest committed h taken = (has_store_fault taken ≡ true)
+    ⊎ ((has_reply taken ≡ true) × (Honest → ¬ (AllCommitted committed h taken)))
+
+-- A commit for these exchanges would add nothing: each reply is to a committed call, and if the
+-- store failed for one of them, all calls are committed.
+pub record NeedNoCommit (committed h : List Entry) (taken : List Exchange) : Type 0 where
+  pub replies : AllCommitted committed h taken
+  pub faults : has_store_fault taken ≡ true → committed ≡ h
 
 -- Each exchange was replied to in order, and has one turn.
 pub data AnswersAll (Honest : Type 0) (IsCommitted : List ℕ → Type 0)
@@ -101,18 +123,16 @@ ReceivesAtMost most old new turns = new.calls + old.sends
 module _ {B : Type 0} (faults : B → Faults) (honest : B → Type 0) (terms : B → Terms)
     (history committed : B → List Entry) (clean : B → Type 0)
     (may_find : B → Option (List Entry) → Type 0) where
-  -- Either the commit of all calls was tried: then, if the book was honest, some reply is to a call
-  -- that was not committed. Or the book is unchanged: then, if it is honest, each reply is to a
-  -- committed call.
+  -- Either the commit of all calls was tried: then these exchanges needed it. Or the book is
+  -- unchanged: then, if it is honest, a commit would have added nothing.
   abbrev pub CommitsIfPending : B → B → List Exchange → Result (Unit {0}) BookFault → Type 0
   CommitsIfPending old new taken commit_result =
-      ((has_reply taken ≡ true) × (honest old → ¬ (AllCommitted (committed old) (history old)
-      taken))
+      (NeedCommit (honest old) (committed old) (history old) taken
       × Commits faults honest terms history committed clean may_find old new commit_result)
       ⊎ ((new ≡ old) × (commit_result ≡ Ok tt)
-      × (honest old → AllCommitted (committed old) (history old) taken))
+      × (honest old → NeedNoCommit (committed old) (history old) taken))
 
-  -- A commit was tried if a reply needed it. Then the replies were sent or withheld.
+  -- A commit was tried if the exchanges needed it. Then the replies were sent or withheld.
   pub record CommitsAndReplies (old new : Trace × B) (taken : List Exchange)
       (answered : List Turn) : Type 0 where
     pub commit_result : Result (Unit {0}) BookFault

@@ -15,8 +15,8 @@ use Rattle.s10_history.specs.declared.entry.Entry.{Entry}
 use Rattle.s10_book.specs.declared.book_fault.BookFault.{BookFault}
 use Rattle.s10_book.specs.declared.faults.Faults.{Faults}
 use Rattle.s10_book.specs.BookFault.{CountsResult}
-use Rattle.s10_book.specs.Book.{Grows, Unchanged}
-use Rattle.s10_book.specs.GroupCommit.{IsCommittedCall}
+use Rattle.s10_book.specs.Book.{Grows}
+use Rattle.s10_book.specs.GroupCommit.{IsCommittedCall, CommitsSome}
 use Rattle.s10_history.specs.Settings.{Terms}
 use Rattle.s10_ends.specs.declared.answer.Answer.{Answer}
 use Rattle.s10_ends.specs.declared.answer.Answer.TheVariants.{Reply, Dropped, Faulted}
@@ -55,9 +55,8 @@ pub record Commits {B : Type 0} (faults : B → Faults) (honest : B → Type 0) 
     BookFault) :
     Type 0 where
   pub counts : CountsResult result (faults old) (faults new)
-  pub unchanged : Unchanged history committed terms honest clean may_find old new
+  pub commits_some : CommitsSome history committed terms honest clean may_find old new
   pub done : honest new → OnOk result (committed new ≡ history new)
-  pub left : honest new → OnErr result (committed new ≡ committed old)
 
 -- One receive, and the answer to the datagram that arrived: from a link's trace and a server's book
 -- to those after it.

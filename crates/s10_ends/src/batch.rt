@@ -16,9 +16,9 @@ use s10_book::GroupCommit;
 use s10_link::{Link, LinkFault};
 use std::alloc::{AllocError, Global};
 
-/// Receives up to `most` datagrams, waiting only for the first, commits their calls in one
-/// transaction, then sends the replies, each to its peer. If each reply is to a call that was
-/// committed before, or there is no reply, no commit is tried.
+/// Receives up to `most` datagrams, waiting only for the first, commits their calls together, then
+/// sends the replies, each to its peer. A commit is tried if a reply is to a pending call, or if the
+/// store failed for a datagram.
 ///
 /// Returns one turn per datagram, in order of arrival, at most `most` in all. A receive that failed
 /// is one more turn, the last one. If no datagram arrived, the only turn is `Quiet`. If the commit
@@ -61,7 +61,7 @@ pub fn serve_batch<B: GroupCommit, L: Link>(
     Ok(turns)
 }
 
-// Commits the calls of a batch if a reply is to a pending call, then sends the replies.
+// Commits the calls of a batch if that is needed, then sends the replies.
 fn commit_and_reply<B: GroupCommit, L: Link>(
     server: &mut Server<B>,
     link: &mut L,

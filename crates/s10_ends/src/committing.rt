@@ -4,14 +4,17 @@ ghost use Rattle.std.specs.Prelude.{◌≡◌, true, false};
 ghost use Rattle.s10_ends.specs.Server.{book_of};
 ghost use Rattle.s10_ends.specs.Batch.{CommitsIfPending, HasCommittedReply, AllCommitted};
 ghost use Rattle.s10_ends.specs.Batch.{is_reply as is_a_reply, has_reply};
+ghost use Rattle.s10_ends.specs.Batch.{has_store_fault as has_a_store_fault};
 
+use crate::answer::Answer;
 use crate::exchange::Exchange;
 use crate::receiving::is_reply;
 use crate::server::Server;
 use s10_book::{BookFault, GroupCommit};
 
-// Commits the calls of the server if a reply of these exchanges is to a pending call. Otherwise
-// leaves the book unchanged, so that a repeat of a committed call needs no commit.
+// Commits the calls of the server if a reply of these exchanges is to a pending call, or if the store
+// failed for one of them: the book may then hold as many pending calls as it can. Otherwise leaves
+// the book unchanged, so that a repeat of a committed call needs no commit.
 pub(crate) fn commit_if_pending<B: GroupCommit>(
     server: &mut Server<B>,
     taken: &[Exchange],
@@ -19,10 +22,16 @@ pub(crate) fn commit_if_pending<B: GroupCommit>(
     ensures { CommitsIfPending B.faults B.honest B.terms B.history B.committed B.clean B.may_find
         (book_of server.old) (book_of server.new) taken.now result }
 {
-    if has_pending_reply(server, taken) {
+    if has_store_fault(taken) || has_pending_reply(server, taken) {
         return server.commit();
     }
     Ok(())
+}
+
+fn has_store_fault(taken: &[Exchange]) -> bool
+    ensures { result ≡ has_a_store_fault taken.now }
+{
+    taken.iter().any(|next| matches!(next.answer, Answer::Faulted(BookFault::Store)))
 }
 
 fn has_pending_reply<B: GroupCommit>(server: &Server<B>, taken: &[Exchange]) -> bool

@@ -248,8 +248,8 @@ impl<B: GroupCommit> Server<B> {
 
     /// Commits all pending calls of the book, so that their replies may be sent.
     ///
-    /// The history is unchanged. After a fault the pending calls stay pending, and the next commit
-    /// includes them.
+    /// The history is unchanged. After a fault the book may have committed the first of them; the
+    /// others stay pending, and the next commit includes them.
     ///
     /// # Errors
     ///

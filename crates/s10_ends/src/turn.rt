@@ -51,7 +51,7 @@ pub fn serve_one<B: Book, L: Link>(server: &mut Server<B>, link: &mut L, day: u3
 }
 
 /// Serves a batch of at most one datagram, without allocating: one receive, a commit if there is a
-/// reply to a pending call, and at most one send.
+/// reply to a pending call or if the store failed, and at most one send.
 ///
 /// # Errors
 ///
