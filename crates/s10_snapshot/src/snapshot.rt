@@ -1,0 +1,42 @@
+//! Takes a snapshot of a ledger's two files.
+
+ghost use Rattle.std.specs.Prelude.{◌≡◌, []};
+ghost use Rattle.s10_snapshot.specs.Readings.{IsTaken};
+
+use crate::ledger_bytes::LedgerBytes;
+use crate::reading::{Reading, is_of_one_log};
+use crate::snapshot_fault::SnapshotFault;
+use crate::source::Source;
+
+/// The maximum number of readings.
+const MAX_READINGS: u32 = 10;
+
+/// Reads the files of a ledger until the log is not begun anew meanwhile, at most ten times.
+///
+/// # Errors
+///
+/// - `Busy` if the log was begun anew in each of ten readings.
+/// - `Unread` if a reading failed.
+pub fn take_snapshot<S: Source>(source: &mut S) -> Result<LedgerBytes, SnapshotFault>
+    requires { S.readings source.old ≡ [] }
+    ensures taken { IsTaken (S.readings source.new) result }
+    ensures at { S.path source.new ≡ S.path source.old }
+{
+    for _made in 0..MAX_READINGS {
+        match source.read() {
+            Ok(reading) => {
+                if is_of_one_log(&reading) {
+                    return Ok(into_bytes(reading));
+                }
+            }
+            Err(fault) => return Err(SnapshotFault::Unread(fault)),
+        }
+    }
+    Err(SnapshotFault::Busy)
+}
+
+fn into_bytes(reading: Reading) -> LedgerBytes
+    ensures { result ≡ reading.bytes }
+{
+    reading.bytes
+}
