@@ -5,7 +5,8 @@ use Rattle.clap.specs.Words.{Row, Text, fault_of, subcommand_of}
 use Rattle.s10_grammar.specs.Grammar.{grammar}
 use Rattle.s10_jobs.specs.declared.job.Job.{Job}
 use Rattle.s10_jobs.specs.declared.job.Job.TheVariants.{Create, Serve, Ask, AskByNotes, Notes}
-use Rattle.s10_jobs.specs.declared.job.Job.TheVariants.{Again, Report, Audit, Loop}
+use Rattle.s10_jobs.specs.declared.job.Job.TheVariants.{Again, Report, Audit, Snapshot, Copy, Loop}
+use Rattle.s10_jobs.specs.declared.look.Look.TheVariants.{Report as ReportOf, Audit as AuditOf}
 use Rattle.s10_jobs.specs.declared.report_kind.ReportKind.TheVariants.{Ranges, Issues, Info}
 use Rattle.s10_jobs.specs.declared.body_words.BodyWords.{BodyWords}
 use Rattle.s10_jobs.specs.declared.body_words.BodyWords.TheVariants.{Grant, Draw, DrawMany}
@@ -69,6 +70,13 @@ headless rows name none is (Report ledger Ranges day) asks = other _ _ asks.0.0 
 headless rows name none is (Report ledger Issues day) asks = other _ _ asks.0.0 is refl
 headless rows name none is (Report ledger Info day) asks = other _ _ asks.0 is refl
 headless rows name none is (Audit ledger) asks = other _ _ asks.0 is refl
+headless rows name none is (Snapshot ledger (ReportOf Ranges day)) asks =
+    other _ _ asks.0.0 is refl
+headless rows name none is (Snapshot ledger (ReportOf Issues day)) asks =
+    other _ _ asks.0.0 is refl
+headless rows name none is (Snapshot ledger (ReportOf Info day)) asks = other _ _ asks.0 is refl
+headless rows name none is (Snapshot ledger AuditOf) asks = other _ _ asks.0 is refl
+headless rows name none is (Copy ledger to) asks = other _ _ asks.0 is refl
 headless rows name none is (Loop day) asks = other _ _ asks.0 is refl
 
 -- The subcommand that was named is that of the words.

@@ -4,7 +4,8 @@ use Rattle.std.specs.Prelude.{option_map, ⊤}
 use Rattle.clap.specs.Words.{Row, Text, fault_of, subcommand_of}
 use Rattle.s10_jobs.specs.declared.job.Job.{Job}
 use Rattle.s10_jobs.specs.declared.job.Job.TheVariants.{Create, Serve, Ask, AskByNotes, Notes}
-use Rattle.s10_jobs.specs.declared.job.Job.TheVariants.{Again, Report, Audit, Loop}
+use Rattle.s10_jobs.specs.declared.job.Job.TheVariants.{Again, Report, Audit, Snapshot, Copy, Loop}
+use Rattle.s10_jobs.specs.declared.look.Look.TheVariants.{Report as ReportOf, Audit as AuditOf}
 use Rattle.s10_jobs.specs.declared.report_kind.ReportKind.{ReportKind}
 use Rattle.s10_jobs.specs.declared.report_kind.ReportKind.TheVariants.{Ranges, Issues, Info}
 use Rattle.s10_jobs.specs.declared.body_words.BodyWords.{BodyWords}
@@ -76,8 +77,17 @@ AsksFor name rows (Notes file customer first lst) = (name ≡ codes "notes")
 AsksFor name rows (Again to notes tries) = (name ≡ codes "again") × HasText rows (codes "to") to.now
     × HasText rows (codes "notes") notes.now × HasTries rows tries
 AsksFor name rows (Report ledger kind day) = IsKind name rows kind
+    × IsFlag rows (codes "snapshot") false
     × HasText rows (codes "ledger") ledger.now × Finds (HasNumber rows (codes "day")) day
-AsksFor name rows (Audit ledger) = (name ≡ codes "audit") × HasText rows (codes "ledger") ledger.now
+AsksFor name rows (Audit ledger) = (name ≡ codes "audit") × IsFlag rows (codes "snapshot") false
+    × HasText rows (codes "ledger") ledger.now
+AsksFor name rows (Snapshot ledger (ReportOf kind day)) = IsKind name rows kind
+    × IsFlag rows (codes "snapshot") true
+    × HasText rows (codes "ledger") ledger.now × Finds (HasNumber rows (codes "day")) day
+AsksFor name rows (Snapshot ledger AuditOf) = (name ≡ codes "audit")
+    × IsFlag rows (codes "snapshot") true × HasText rows (codes "ledger") ledger.now
+AsksFor name rows (Copy ledger to) = (name ≡ codes "copy")
+    × HasText rows (codes "ledger") ledger.now × HasText rows (codes "to") to.now
 AsksFor name rows (Loop day) = (name ≡ codes "loop") × Finds (HasNumber rows (codes "day")) day
 
 -- The subcommand that was named asks for the job.

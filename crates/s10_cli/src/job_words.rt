@@ -5,6 +5,7 @@ ghost use Rattle.s10_cli.specs.Jobs.{AsksFor, IsNamedJob};
 
 use crate::again_job::again_job;
 use crate::audit_job::audit_job;
+use crate::copy_job::copy_job;
 use crate::create_job::create_job;
 use crate::draw_job::draw_job;
 use crate::grant_job::grant_job;
@@ -48,6 +49,7 @@ fn job_of<'a>(name: &str, found: &ArgMatches<'a>) -> Option<Job<'a>>
         "report" => report_job(found),
         "info" => info_job(found),
         "audit" => audit_job(found),
+        "copy" => copy_job(found),
         "loop" => Some(loop_job(found)),
         _ => None,
     }

@@ -7,6 +7,7 @@ mod audit_job;
 mod buffered;
 mod call_options;
 mod command_line;
+mod copy_job;
 mod create_job;
 mod draw_job;
 mod grant_job;

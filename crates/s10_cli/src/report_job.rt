@@ -5,7 +5,7 @@ ghost use Rattle.s10_cli.specs.Jobs.{AsksFor};
 
 use crate::option_values::{flag_of, number_of, text_of};
 use clap::ArgMatches;
-use s10_jobs::{Job, ReportKind};
+use s10_jobs::{Job, Look, ReportKind};
 
 /// Returns the report that the words of `report` ask for.
 ///
@@ -19,20 +19,29 @@ pub fn report_job<'a>(found: &ArgMatches<'a>) -> Option<Job<'a>>
     } else {
         ReportKind::Ranges
     };
-    Some(Job::Report {
-        ledger: text_of(found, "ledger")?,
-        kind,
-        day: number_of(found, "day"),
-    })
+    let ledger = text_of(found, "ledger")?;
+    let day = number_of(found, "day");
+    if flag_of(found, "snapshot") {
+        return Some(Job::Snapshot {
+            ledger,
+            look: Look::Report { kind, day },
+        });
+    }
+    Some(Job::Report { ledger, kind, day })
 }
 
 /// Returns the report that the words of `info` ask for, or `None` as `report_job` does.
 pub fn info_job<'a>(found: &ArgMatches<'a>) -> Option<Job<'a>>
     ensures { Finds (AsksFor (codes "info") (rows_in found.now)) result }
 {
-    Some(Job::Report {
-        ledger: text_of(found, "ledger")?,
-        kind: ReportKind::Info,
-        day: number_of(found, "day"),
-    })
+    let kind = ReportKind::Info;
+    let ledger = text_of(found, "ledger")?;
+    let day = number_of(found, "day");
+    if flag_of(found, "snapshot") {
+        return Some(Job::Snapshot {
+            ledger,
+            look: Look::Report { kind, day },
+        });
+    }
+    Some(Job::Report { ledger, kind, day })
 }

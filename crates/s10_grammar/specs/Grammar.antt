@@ -145,15 +145,20 @@ again_shape = says (codes "again") (a_text (codes "to") ∷ a_text (codes "notes
 
 -- The subcommand `report`.
 abbrev pub report_shape : Shape
-report_shape = says (codes "report") (a_text (codes "ledger") ∷ a_flag (codes "issues") ∷ day ∷ [])
+report_shape = says (codes "report") (a_text (codes "ledger") ∷ a_flag (codes "snapshot")
+    ∷ a_flag (codes "issues") ∷ day ∷ [])
 
 -- The subcommand `info`.
 abbrev pub info_shape : Shape
-info_shape = says (codes "info") (a_text (codes "ledger") ∷ day ∷ [])
+info_shape = says (codes "info") (a_text (codes "ledger") ∷ a_flag (codes "snapshot") ∷ day ∷ [])
 
 -- The subcommand `audit`.
 abbrev pub audit_shape : Shape
-audit_shape = says (codes "audit") (a_text (codes "ledger") ∷ [])
+audit_shape = says (codes "audit") (a_text (codes "ledger") ∷ a_flag (codes "snapshot") ∷ [])
+
+-- The subcommand `copy`.
+abbrev pub copy_shape : Shape
+copy_shape = says (codes "copy") (a_text (codes "ledger") ∷ a_text (codes "to") ∷ [])
 
 -- The subcommand `loop`.
 abbrev pub loop_shape : Shape
@@ -174,7 +179,7 @@ grammar = record {
   subs = check_shape ∷ make_shape ∷ show_shape ∷ replay_shape ∷ create_shape ∷ serve_shape
       ∷ grant_shape ∷ draw_shape
       ∷ void_shape ∷ query_shape ∷ withdraw_shape ∷ notes_shape ∷ again_shape ∷ report_shape
-      ∷ info_shape ∷ audit_shape ∷ loop_shape ∷ [];
+      ∷ info_shape ∷ audit_shape ∷ copy_shape ∷ loop_shape ∷ [];
 }
 
 -- The argument follows this rule, and only in its own command.

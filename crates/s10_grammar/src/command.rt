@@ -7,6 +7,7 @@ use crate::again_command::again_command;
 use crate::audit_command::audit_command;
 use crate::builders::{named, with_subcommand};
 use crate::check_command::check_command;
+use crate::copy_command::copy_command;
 use crate::create_command::create_command;
 use crate::draw_command::draw_command;
 use crate::grant_command::grant_command;
@@ -57,6 +58,7 @@ pub fn command<'a>(alloc: Global) -> Result<Command<'a>, AllocError>
     let command = with_subcommand(command, report_command(alloc));
     let command = with_subcommand(command, info_command(alloc));
     let command = with_subcommand(command, audit_command(alloc));
+    let command = with_subcommand(command, copy_command(alloc));
     with_subcommand(command, loop_command(alloc))
 }
 

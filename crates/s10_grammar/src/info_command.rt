@@ -3,7 +3,7 @@ ghost use Rattle.std.specs.Prelude.{IfOk};
 ghost use Rattle.s10_grammar.specs.Grammar.{ReadsAs, info_shape};
 
 use crate::builders::{named, with};
-use crate::options::{day_option, ledger_option};
+use crate::options::{day_option, ledger_option, snapshot_option};
 use clap::Command;
 use std::alloc::{AllocError, Global};
 
@@ -22,6 +22,7 @@ pub fn info_command<'a>(alloc: Global) -> Result<Command<'a>, AllocError>
         INFO_EXAMPLES,
     );
     let command = with(Ok(command), ledger_option(alloc));
+    let command = with(command, snapshot_option(alloc));
     with(
         command,
         day_option(
@@ -38,6 +39,8 @@ numbers ever issued (used), those that are void, and those that are free on the 
 ledger's last day if that is later. Free counts no serial number of a closed range. The exit status
 is 0. With status 3, `ledger FAULT` says that the ledger could not be opened, `faulted FAULT` or
 `output` that the lines end early, and `clock` that the clock gives no day.
+With --snapshot, nothing is locked or written, and every reply that was sent before is counted;
+`ledger busy`, with status 3, says that the ledger changed too much in each of ten readings.
 
 Example:
   s10 info --ledger post.db --day 20030

@@ -7,6 +7,7 @@ mod audit_command;
 mod builders;
 mod check_command;
 mod command;
+mod copy_command;
 mod create_command;
 mod draw_command;
 mod grant_command;

@@ -1,9 +1,9 @@
 //! Builds the options that several subcommands have.
 ghost use Rattle.std.specs.Prelude.{codes};
-ghost use Rattle.s10_grammar.specs.Grammar.{Follows, a_count, a_text, an_option, between, day};
+ghost use Rattle.s10_grammar.specs.Grammar.{Follows, a_count, a_flag, a_text, an_option, between, day};
 ghost use Rattle.s10_grammar.specs.Grammar.{interval, limit, tries};
 
-use crate::builders::{option, text_option};
+use crate::builders::{flag, option, text_option};
 use clap::{Arg, value_parser};
 use s10_history::{MAX_INTERVAL, MAX_LIMIT};
 use std::alloc::Global;
@@ -17,6 +17,17 @@ pub fn ledger_option<'a>(alloc: Global) -> Arg<'a>
         "ledger",
         "FILE",
         "The file that keeps the ledger: an SQLite database",
+    )
+}
+
+/// Builds the option `--snapshot`: the files of the ledger are read into memory.
+pub fn snapshot_option<'a>(alloc: Global) -> Arg<'a>
+    ensures { Follows result (a_flag (codes "snapshot")) }
+{
+    flag(
+        alloc,
+        "snapshot",
+        "Read the ledger into memory, without locking or changing it, also while it is served",
     )
 }
 

@@ -3,7 +3,7 @@ ghost use Rattle.std.specs.Prelude.{IfOk};
 ghost use Rattle.s10_grammar.specs.Grammar.{ReadsAs, report_shape};
 
 use crate::builders::{flag, named, with};
-use crate::options::{day_option, ledger_option};
+use crate::options::{day_option, ledger_option, snapshot_option};
 use clap::Command;
 use std::alloc::{AllocError, Global};
 
@@ -22,6 +22,7 @@ pub fn report_command<'a>(alloc: Global) -> Result<Command<'a>, AllocError>
         REPORT_EXAMPLES,
     );
     let command = with(Ok(command), ledger_option(alloc));
+    let command = with(command, snapshot_option(alloc));
     let command = with(
         command,
         flag(
@@ -46,9 +47,14 @@ that is later; the line of a withdrawn range ends with `closed`. With --issues, 
 identifier issued, in order of arrival: `issued` or `voided` if it was not issued again, else
 `reissued`. The exit status is 0. With status 3, `ledger FAULT` says that the ledger could not be
 opened, `faulted FAULT` or `output` that the report ends early, and `clock` that the clock gives no
-day.
+day. With --snapshot, nothing is locked or written, and every reply that was sent before is in the
+report; `ledger busy`, with status 3, says that the ledger changed too much in each of ten readings.
 
-Example:
+Examples:
   s10 report --ledger post.db --day 20030
+  range customer service country first last used voided free
+  1 7 RA GB 00000000 00000002 3 0 1
+
+  s10 report --ledger post.db --snapshot --day 20030
   range customer service country first last used voided free
   1 7 RA GB 00000000 00000002 3 0 1";

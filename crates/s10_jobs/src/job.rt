@@ -1,4 +1,5 @@
 //! Lists the jobs that a command line asks for.
+use crate::look::Look;
 use crate::noted_question::NotedQuestion;
 use crate::question::Question;
 use crate::report_kind::ReportKind;
@@ -50,6 +51,16 @@ pub enum Job<'a> {
     /// An audit of a ledger.
     Audit {
         ledger: &'a str,
+    },
+    /// A look at a snapshot of a ledger, which another process may serve.
+    Snapshot {
+        ledger: &'a str,
+        look: Look,
+    },
+    /// A copy of a ledger, which another process may serve, in a new pair of files.
+    Copy {
+        ledger: &'a str,
+        to: &'a str,
     },
     /// A server and a client of this process, over two sockets.
     Loop {

@@ -1,4 +1,5 @@
 use Rattle.s10_grammar.proofs.audit_command.audit_command.Goals as goal
 
 pub returns : goal.returns
-returns c = c.with.ensures _ _ c.named-command.ensures c.ledger_option.ensures
+returns c = c.with.ensures _ _ (c.with-command.ensures _ _ c.named-command.ensures
+    c.ledger_option.ensures) c.snapshot_option.ensures

@@ -5,6 +5,7 @@ pub returns : goal.returns
 unfolding grammar
 returns c =
     c.with_subcommand.ensures _ _
+    (c.with_subcommand-command-17.ensures _ _
     (c.with_subcommand-command-16.ensures _ _
     (c.with_subcommand-command-15.ensures _ _
     (c.with_subcommand-command-14.ensures _ _
@@ -38,4 +39,5 @@ returns c =
     c.report_command.ensures)
     c.info_command.ensures)
     c.audit_command.ensures)
+    c.copy_command.ensures)
     c.loop_command.ensures
