@@ -5,13 +5,11 @@ use Rattle.std.specs.Io.KnownBytes.{Keeps}
 use Rattle.clap.specs.Words.{Text}
 use Rattle.sqlite_disk.specs.declared.start.Start.{Ghosts}
 use Rattle.s10_lines.specs.declared.write_fault.WriteFault.{WriteFault}
-use Rattle.s10_link.specs.UdpLink.{BoundLink}
 use Rattle.s10_jobs.specs.declared.job.Job.{Job}
 use Rattle.s10_jobs.specs.declared.job_status.JobStatus.{JobStatus}
-use Rattle.s10_host.specs.declared.loop_resources.LoopResources.{LoopResources}
+use Rattle.s10_host.specs.declared.job_resources.JobResources.{JobResources}
 use Rattle.s10_host.specs.Files.{ClosedFiles}
-use Rattle.s10_host.specs.Jobs.{HasEnded}
-use Rattle.s10_host.specs.NotesJobs.{OpenNotes}
+use Rattle.s10_host.specs.Ended.{HasEnded}
 use Rattle.s10_cli.specs.CommandLine.{RunsLine, exit_status}
 use Rattle.s10_cli.specs.Jobs.{AsksInWords}
 
@@ -27,10 +25,9 @@ module _ (S : RattleType) (first : Ghosts S.Denot) {C : Type 0} (gives : C → O
     -- The job that the words ask for was run, and the exit status is that of its result. The output
     -- was flushed.
     abbrev pub RunsJob : List Text → C → C → Option (List ℕ) → Option (List ℕ) → ℕ
-        → Option (ClosedFiles S first) → Option BoundLink → Option LoopResources
-        → Option OpenNotes → Type 0
-    RunsJob words begun ended old new status files link looped notes =
+        → JobResources (ClosedFiles S first) → Type 0
+    RunsJob words begun ended old new status used =
         (job : Job) × (done : Result JobStatus WriteFault) × (printed : Option (List ℕ))
         × AsksInWords words job
-        × HasEnded S first gives job begun ended old printed done files link looped notes
+        × HasEnded S first gives job begun ended old printed done used
         × Keeps printed new × (status ≡ exit_status done)

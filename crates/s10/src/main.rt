@@ -6,7 +6,6 @@ ghost use Rattle.std.specs.Prelude.{MatchOption};
 ghost use Rattle.std.specs.IoError.{error_kind};
 ghost use Rattle.std.specs.declared.io.ErrorKind.TheVariants.{InvalidData};
 ghost use Rattle.s10_jobs.specs.declared.job_status.JobStatus.TheVariants.{CommandLine, Failed};
-ghost use Rattle.s10_host.specs.JobResources.{files_in, link_in, looped_in, notes_in};
 ghost use Rattle.s10.specs.Ends.{RunsWords, RunsJob};
 
 use s10_cli::{LineEnd, flush_buffer, run_buffered};
@@ -90,8 +89,7 @@ fn run<'a, S: Start, D: Days, W: AsStr, I: Read + Drop, O: Write + Drop>(
         (λ used. (between : Option (List ℕ)) × RunsWords (map W.text words.now) (I.remaining input)
         (O.contents output) between None
         × RunsJob S.row S.Start D.gives (map W.text words.now) days.old days.new between
-        (O.contents ended.output) ended.status (files_in used) (link_in used) (looped_in used)
-        (notes_in used))) }
+        (O.contents ended.output) ended.status used)) }
     ensures failed { result.1 ≡ None → result.0 ≡ 3 }
 {
     let (line, output) = match run_buffered(rt, words, input, output) {

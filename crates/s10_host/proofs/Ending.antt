@@ -44,8 +44,9 @@ use Rattle.s10_host.specs.Jobs.{ledger_line, FailsByLedger, FailsByClosing, Ends
 use Rattle.s10_host.specs.Jobs.{HasMadeLedger, HasCreated, EndsServed, IsRefusedIn, IsUnopened}
 use Rattle.s10_host.specs.Jobs.{IsServed, IsUnlinked, Writes, IsReported, IsReportOf, HasServed}
 use Rattle.s10_host.specs.Jobs.{HasReported}
-use Rattle.s10_host.specs.Jobs.{HasAudited, HasEnded}
-use Rattle.s10_host.specs.NotesJobs.{OpenNotes}
+use Rattle.s10_host.specs.Jobs.{HasAudited}
+use Rattle.s10_host.specs.Ended.{HasEnded}
+use Rattle.s10_host.specs.declared.job_resources.JobResources.{JobResources}
 use Rattle.s10_host.specs.declared.ledger_job.LedgerJob.{LedgerJob}
 use Rattle.s10_host.specs.declared.ledger_job.LedgerJob.TheVariants.{Create, Serve, Report as ReportOn}
 use Rattle.s10_host.specs.UntilFile.{EndsIfNamed}
@@ -696,20 +697,11 @@ module _ (S : RattleType) (first : Ghosts S.Denot) where
         refused = λ _. fails_as (IsAbsenceOr IsFileFault) fault old new printed result is says same;
       })
 
-  -- The same for a result that is returned unchanged.
+  -- The job that ended is the one that was matched.
   pub ended_as : {C : Type 0} (gives : C → Option ℕ → C → Type 0) (job same : Job) (begun ended : C)
-      (old new : Option (List ℕ))
-      (result handed : Result JobStatus WriteFault) (files given : Option (ClosedFiles S first))
-      (link over : Option BoundLink) (looped left : Option LoopResources) (notes kept : Option OpenNotes)
-      → job ≡ same → handed ≡ result → given ≡ files → over ≡ link → left ≡ looped → kept ≡ notes
-      → HasEnded S first gives same begun ended old new result files link looped notes
-      → HasEnded S first gives job begun ended old new handed given over left kept
-  ended_as gives job same begun ended old new result handed files given link over looped left notes
-      kept is so put on lasts stays did =
-      subst (λ n. HasEnded S first gives job begun ended old new handed given over left n) (sym stays)
-      (subst (λ l. HasEnded S first gives job begun ended old new handed given over l notes) (sym lasts)
-      (subst (λ l. HasEnded S first gives job begun ended old new handed given l looped notes) (sym on)
-      (subst (λ f. HasEnded S first gives job begun ended old new handed f link looped notes) (sym put)
-      (subst (λ r. HasEnded S first gives job begun ended old new r files link looped notes) (sym so)
-      (subst (λ j. HasEnded S first gives j begun ended old new result files link looped notes) (sym is)
-      did)))))
+      (old new : Option (List ℕ)) (result : Result JobStatus WriteFault)
+      (used : JobResources (ClosedFiles S first)) → job ≡ same
+      → HasEnded S first gives same begun ended old new result used
+      → HasEnded S first gives job begun ended old new result used
+  ended_as gives job same begun ended old new result used is did =
+      subst (λ j. HasEnded S first gives j begun ended old new result used) (sym is) did

@@ -5,3 +5,4 @@ mod Opening
 mod Ending
 mod Answering
 mod NotesEnding
+mod Looking

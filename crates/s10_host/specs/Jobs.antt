@@ -41,7 +41,6 @@ use Rattle.s10_jobs.specs.Questioning.{IsAsked, IsUnasked}
 use Rattle.s10_host.specs.declared.loop_resources.LoopResources.{LoopResources}
 use Rattle.s10_host.specs.Closing.{TurnsUntil}
 use Rattle.s10_host.specs.Called.{HasCalled}
-use Rattle.s10_host.specs.NotesJobs.{OpenNotes, HasMadeNotes, HasAskedAgain, HasAskedByNotes}
 use Rattle.s10_host.specs.LoopRun.{HasRunLoop}
 use Rattle.s10_host.specs.Files.{FileConnection, FileLedger, ClosedFiles, WhereClean, IsFoundIn}
 use Rattle.s10_host.specs.Files.{IsEmptyBook, IsFoundBook, ClosesInto, LeavesClean, IsFileFault}
@@ -272,28 +271,3 @@ module _ (S : RattleType) (first : Ghosts S.Denot) where
       (files : Option (ClosedFiles S first)) : Type 0 where
     pub audited : IfSome files (IsAudited old new result)
     pub refused : files ≡ None → IfOk result (FailsByLedger (IsAbsenceOr IsFileFault) old new)
-
-  -- What a job has done when it ends, by the days that it took, by its result and by its resources:
-  -- files, link, those of a loop, or notes.
-  abbrev pub HasEnded : {C : Type 0} → (C → Option ℕ → C → Type 0) → Job → C → C
-      → Option (List ℕ) → Option (List ℕ) → Result JobStatus WriteFault
-      → Option (ClosedFiles S first) → Option BoundLink → Option LoopResources
-      → Option OpenNotes → Type 0
-  HasEnded gives (job.Create ledger settings) begun ended old new result files link looped notes =
-      HasCreated settings old new result files
-  HasEnded gives (job.Serve ledger bind options until) begun ended old new result files link looped notes =
-      HasServed gives bind.now options begun ended (is_some until) old new result files link
-  HasEnded gives (job.Ask question) begun ended old new result files link looped notes =
-      HasAsked question old new result link
-  HasEnded gives (job.AskByNotes question) begun ended old new result files link looped notes =
-      HasAskedByNotes question old new result link notes
-  HasEnded gives (job.Notes file customer first lst) begun ended old new result files link looped notes =
-      HasMadeNotes file.now customer first lst old new result notes
-  HasEnded gives (job.Again to path tries) begun ended old new result files link looped notes =
-      HasAskedAgain to.now path.now tries old new result link notes
-  HasEnded gives (job.Report ledger kind day) begun ended old new result files link looped notes =
-      HasReported gives kind day begun ended old new result files
-  HasEnded gives (job.Audit ledger) begun ended old new result files link looped notes =
-      HasAudited old new result files
-  HasEnded gives (job.Loop day) begun ended old new result files link looped notes =
-      IsRunOn gives day begun ended old new result looped

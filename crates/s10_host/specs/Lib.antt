@@ -8,3 +8,6 @@ pub mod NotesJobs
 pub mod Jobs
 pub mod JobResources
 pub mod LedgerJobs
+pub mod Snapshots
+pub mod Copying
+pub mod Ended

@@ -39,8 +39,9 @@ pub fn run_audit<S: Alter, K: Observer, W: Write>(
     (write_audit(found, output), left)
 }
 
-// Returns the number of calls, or why there is no ledger. Also returns the connection.
-fn audit_ledger<S: Alter, K: Observer>(
+/// Opens the ledger of a connection, which executes all its calls again. Returns the number of calls,
+/// or why there is no ledger. Also returns the connection.
+pub(crate) fn audit_ledger<S: Alter, K: Observer>(
     alloc: Global,
     seed: HashSeed,
     connection: Connection<S>,

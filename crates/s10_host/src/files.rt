@@ -229,7 +229,8 @@ fn cause_of(rt: &HostRuntime, path: &str) -> Option<io::Error> {
     options.open(rt, path).err()
 }
 
-fn fault_of_opening(error: &Error) -> OpenFault
+/// Returns the fault of a database that could not be opened.
+pub(crate) fn fault_of_opening(error: &Error) -> OpenFault
     ensures { IsFileFault result }
 {
     match error {

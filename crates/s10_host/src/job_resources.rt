@@ -3,7 +3,9 @@
 ghost use Rattle.std.specs.Prelude.{◌≡◌};
 ghost use Rattle.s10_host.specs.JobResources.{files_in, link_in};
 
+use crate::copy_resources::CopyResources;
 use crate::loop_resources::LoopResources;
+use crate::snapshot_resources::SnapshotResources;
 use s10_link::UdpLink;
 use s10_notes::{HostFolder, NotesFile};
 
@@ -32,6 +34,10 @@ pub enum JobResources<'a, F> {
     },
     /// The resources of a loop.
     Loop(LoopResources),
+    /// The resources of a look at a snapshot.
+    Snapshot(SnapshotResources<'a>),
+    /// The resources of a copy.
+    Copy(CopyResources<'a>),
 }
 
 /// Returns the files and the link of a job, each if there is one.

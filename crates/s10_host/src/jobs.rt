@@ -1,10 +1,10 @@
 //! Runs the jobs over files, sockets and the clock. `S` represents what the files held.
 
-ghost use Rattle.s10_host.specs.JobResources.{files_in, link_in, looped_in, notes_in};
-ghost use Rattle.s10_host.specs.Jobs.{HasEnded};
+ghost use Rattle.s10_host.specs.Ended.{HasEnded};
 
 use crate::ask::run_question;
 use crate::audit_file::run_audit_on_file;
+use crate::copy::run_copy;
 use crate::create::run_create;
 use crate::files::ClosedFiles;
 use crate::job_end::JobEnd;
@@ -12,6 +12,7 @@ use crate::looping::run_loop_on;
 use crate::notes::{run_again, run_by_notes, run_notes};
 use crate::report::run_report;
 use crate::serve::run_serve;
+use crate::snapshot::run_snapshot;
 use s10_jobs::{Days, Job};
 use s10_ledger::HashSeed;
 use sqlite::Start;
@@ -34,8 +35,7 @@ pub fn run_job<'a, S: Start, D: Days, W: Write>(
     out: &mut W,
 ) -> JobEnd<'a, ClosedFiles<S>>
     ensures { HasEnded S.row S.Start D.gives job.now days.old days.new (W.contents out.old)
-        (W.contents out.new) result.done (files_in result.resources) (link_in result.resources)
-        (looped_in result.resources) (notes_in result.resources) }
+        (W.contents out.new) result.done result.resources }
 {
     match job {
         Job::Create { ledger, settings } => run_create(
@@ -60,6 +60,8 @@ pub fn run_job<'a, S: Start, D: Days, W: Write>(
             rt, *ledger, *kind, *day, seed, start, days, out,
         ),
         Job::Audit { ledger } => run_audit_on_file(rt, *ledger, seed, start, days, out),
+        Job::Snapshot { ledger, look } => run_snapshot(rt, *ledger, *look, seed, days, out),
+        Job::Copy { ledger, to } => run_copy(rt, *ledger, *to, seed, out),
         Job::Loop { day } => run_loop_on(rt, *day, days, out),
     }
 }

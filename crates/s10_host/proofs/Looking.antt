@@ -1,0 +1,86 @@
+-- How a look at a snapshot ends.
+use Rattle.std.proofs.Common.{◌≡◌, ◌⊎◌, ap₂, inl, inr, refl, sym, subst, ℕ, List, IsTrue}
+use Rattle.std.proofs.Common.{Option, Some, None, Result, Ok, Err}
+use Rattle.std.specs.Prelude.{IfOk, IfSome}
+use Rattle.std.specs.Io.KnownBytes.{Appends}
+use Rattle.sqlite_disk.specs.declared.Files.{Files}
+use Rattle.sqlite_disk.specs.declared.memory.Memory.{Memory}
+use Rattle.sqlite_disk.specs.Memory.{memory_bytes}
+use Rattle.sqlite_wal.specs.Recovery.{Image}
+use Rattle.sqlite_trees.proofs.Doubt.{no_doubt}
+use Rattle.sqlite_pool.proofs.StateLemmas.{clean_is}
+use Rattle.sqlite.specs.Files.{over_files, file_state, Finds, image_of}
+use Rattle.sqlite.specs.Start.{FindsIn}
+use Rattle.s10_lines.specs.declared.write_fault.WriteFault.{WriteFault}
+use Rattle.s10_rows.specs.declared.open_fault.OpenFault.{OpenFault}
+use Rattle.s10_statements.specs.ConnectionState.{IsClean}
+use Rattle.s10_jobs.specs.declared.job_status.JobStatus.{JobStatus}
+use Rattle.s10_jobs.specs.declared.reporting.Report.{Report}
+use Rattle.s10_snapshot.specs.declared.ledger_bytes.LedgerBytes.{LedgerBytes}
+use Rattle.s10_snapshot.specs.declared.snapshot_fault.SnapshotFault.{SnapshotFault}
+use Rattle.s10_host.specs.declared.snapshot_job.SnapshotJob.{SnapshotJob}
+use Rattle.s10_host.specs.declared.snapshot_job.SnapshotJob.TheVariants.{Report as ReportOf, Audit}
+use Rattle.s10_host.specs.Audited.{HasFound, audit_line, audit_status}
+use Rattle.s10_host.specs.Files.{IsFileFault}
+use Rattle.s10_host.specs.Jobs.{FailsByLedger}
+use Rattle.s10_host.specs.Snapshots.{AreAuditedBytes, EndsLook, HasReportedOver, IsFoundInBytes}
+use Rattle.s10_host.specs.Snapshots.{LooksAt, MemoryConnection, image_in, memory_files}
+use Rattle.s10_host.proofs.Opening.{found_book}
+
+-- A disk in memory is clean.
+pub memory_is_clean : (c : MemoryConnection) → IsClean over_files c
+memory_is_clean c = no_doubt _ (subst IsTrue (sym (clean_is c.store.pool)) refl)
+
+-- What is found in files with these bytes is found in the bytes.
+pub found_in_bytes : (files : Files Memory) (bytes : LedgerBytes) (c : MemoryConnection)
+    → memory_bytes files.log ≡ bytes.log.items → memory_bytes files.db ≡ bytes.file.items
+    → Finds files c → FindsIn (image_in bytes) (file_state c)
+found_in_bytes files bytes c log db finds =
+    let same : image_of memory_files files ≡ image_in bytes =
+    ap₂ (λ (l d : List ℕ). let i : Image = record { log = l; db = d } in i) log db in
+    subst (λ i. FindsIn i (file_state c)) same (record { holds = finds.holds; reads = finds.reads })
+
+-- A report over a connection to the bytes.
+pub looked_report : (bytes : LedgerBytes) (report : Report) (was left : MemoryConnection)
+    (old new : Option (List ℕ)) (result : Result JobStatus WriteFault) → IsFoundInBytes bytes was
+    → HasReportedOver over_files report was left old new result
+    → LooksAt bytes (ReportOf report) left old new result
+looked_report bytes report was left old new result found (inl over) = inl (record {
+  opened = over.opened;
+  found = found_book (image_in bytes) was over.opened (λ _. found) over.opening
+      (memory_is_clean over.opened.conn);
+  reported = over.reported;
+  written = over.written (memory_is_clean left);
+})
+looked_report bytes report was left old new result found (inr refused) = inr (record {
+  was = was;
+  found = found;
+  fault = refused.fault;
+  refusal = refused.refusal (memory_is_clean left);
+  printed = refused.printed;
+})
+
+-- An audit over a connection to the bytes.
+pub looked_audit : (bytes : LedgerBytes) (was left : MemoryConnection)
+    (old new : Option (List ℕ)) (result : Result JobStatus WriteFault)
+    (finding : Result ℕ OpenFault) → IsFoundInBytes bytes was
+    → HasFound over_files was left finding
+    → IfOk result (λ status. (status ≡ audit_status finding) × Appends old new (audit_line finding))
+    → AreAuditedBytes bytes left old new result
+looked_audit bytes was left old new result finding found counted written = record {
+  was = was;
+  found = found;
+  finding = finding;
+  opened = counted.opened (memory_is_clean left);
+  right = counted.finding (memory_is_clean left);
+  written = written;
+}
+
+-- The bytes were looked at, or could not be opened.
+pub ends_look : (bytes : LedgerBytes) (job : SnapshotJob) (left : Option MemoryConnection)
+    (old new : Option (List ℕ)) (result : Result JobStatus WriteFault)
+    → IfSome left (λ l. LooksAt bytes job l old new result)
+    → (left ≡ None → IfOk result (FailsByLedger IsFileFault old new))
+    → EndsLook (Ok bytes) job left old new result
+ends_look bytes job None old new result looked unopened = unopened refl
+ends_look bytes job (Some left) old new result looked unopened = looked

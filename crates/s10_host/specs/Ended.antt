@@ -1,0 +1,44 @@
+-- Defines what each job has done when it ends.
+use denote.RattleType.{RattleType}
+use Rattle.std.specs.Prelude.{ℕ, is_some, List, Option, Result}
+use Rattle.sqlite_disk.specs.declared.start.Start.{Ghosts}
+use Rattle.s10_lines.specs.declared.write_fault.WriteFault.{WriteFault}
+use Rattle.s10_jobs.specs.declared.job.Job.{Job}
+use Rattle.s10_jobs.specs.declared.job.Job.TheVariants as job
+use Rattle.s10_jobs.specs.declared.job_status.JobStatus.{JobStatus}
+use Rattle.s10_host.specs.declared.job_resources.JobResources.{JobResources}
+use Rattle.s10_host.specs.JobResources.{files_in, link_in, looped_in, notes_in, snapshot_in, copy_in}
+use Rattle.s10_host.specs.Copying.{HasCopied}
+use Rattle.s10_host.specs.Files.{ClosedFiles}
+use Rattle.s10_host.specs.Jobs.{HasCreated, HasServed, HasReported, HasAudited, HasAsked, IsRunOn}
+use Rattle.s10_host.specs.NotesJobs.{HasMadeNotes, HasAskedAgain, HasAskedByNotes}
+use Rattle.s10_host.specs.Snapshots.{HasLooked}
+
+module _ (S : RattleType) (first : Ghosts S.Denot) where
+  -- What a job has done when it ends, by the days that it took, by its result and by its resources.
+  abbrev pub HasEnded : {C : Type 0} → (C → Option ℕ → C → Type 0) → Job → C → C
+      → Option (List ℕ) → Option (List ℕ) → Result JobStatus WriteFault
+      → JobResources (ClosedFiles S first) → Type 0
+  HasEnded gives (job.Create ledger settings) begun ended old new result used =
+      HasCreated S first settings old new result (files_in used)
+  HasEnded gives (job.Serve ledger bind options until) begun ended old new result used =
+      HasServed S first gives bind.now options begun ended (is_some until) old new result
+      (files_in used) (link_in used)
+  HasEnded gives (job.Ask question) begun ended old new result used =
+      HasAsked question old new result (link_in used)
+  HasEnded gives (job.AskByNotes question) begun ended old new result used =
+      HasAskedByNotes question old new result (link_in used) (notes_in used)
+  HasEnded gives (job.Notes file customer first lst) begun ended old new result used =
+      HasMadeNotes file.now customer first lst old new result (notes_in used)
+  HasEnded gives (job.Again to path tries) begun ended old new result used =
+      HasAskedAgain to.now path.now tries old new result (link_in used) (notes_in used)
+  HasEnded gives (job.Report ledger kind day) begun ended old new result used =
+      HasReported S first gives kind day begun ended old new result (files_in used)
+  HasEnded gives (job.Audit ledger) begun ended old new result used =
+      HasAudited S first old new result (files_in used)
+  HasEnded gives (job.Snapshot ledger look) begun ended old new result used =
+      HasLooked gives ledger.now look begun ended old new result (snapshot_in used)
+  HasEnded gives (job.Copy ledger to) begun ended old new result used =
+      HasCopied ledger.now to.now old new result (copy_in used)
+  HasEnded gives (job.Loop day) begun ended old new result used =
+      IsRunOn gives day begun ended old new result (looped_in used)
