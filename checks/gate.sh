@@ -123,6 +123,7 @@ run_checks() {
     check trials 1800 'program sqlite3' sh "$checks/trials.sh" "$s10"
     check refused_program 1800 'program python3 cc' python3 "$checks/refused_program.py" "$s10" 211
     check together 900 'program python3' env TMPDIR="$memory" python3 "$checks/together.py" "$s10"
+    check snapshots 300 'program python3' env TMPDIR="$memory" python3 "$checks/snapshots.py" "$s10"
     check shards 900 'program python3' env TMPDIR="$memory" bash "$checks/shards.sh" "$s10" 2000
     check sizes 1200 'program python3' env TMPDIR="$memory" python3 "$checks/sizes.py" "$s10"
     check package 900 'program python3 git' bash "$checks/package.sh" "$s10"

@@ -12,3 +12,4 @@ mod loopback;
 mod questions;
 mod refused_files;
 mod serving;
+mod snapshots;

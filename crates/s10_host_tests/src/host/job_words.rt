@@ -175,6 +175,26 @@ const OPTIONS: &[Line] = &[
         "s10 info --day 20030 --ledger a.db",
         r#"Some(Report { ledger: "a.db", kind: Info, day: Some(20030) })"#,
     ),
+    (
+        "s10 report --snapshot --ledger a.db",
+        r#"Some(Snapshot { ledger: "a.db", look: Report { kind: Ranges, day: None } })"#,
+    ),
+    (
+        "s10 report --day 0 --issues --ledger a.db --snapshot",
+        r#"Some(Snapshot { ledger: "a.db", look: Report { kind: Issues, day: Some(0) } })"#,
+    ),
+    (
+        "s10 info --ledger a.db --snapshot --day 20030",
+        r#"Some(Snapshot { ledger: "a.db", look: Report { kind: Info, day: Some(20030) } })"#,
+    ),
+    (
+        "s10 audit --snapshot --ledger a.db",
+        r#"Some(Snapshot { ledger: "a.db", look: Audit })"#,
+    ),
+    (
+        "s10 copy --to b.db --ledger a.db",
+        r#"Some(Copy { ledger: "a.db", to: "b.db" })"#,
+    ),
     ("s10 loop --day 20000", "Some(Loop { day: Some(20000) })"),
     ("s10 check RA473124829US", "None"),
 ];
@@ -686,7 +706,8 @@ fn explains(help: &[u8], words: &[&str]) -> bool {
     let Ok(text) = std::str::from_utf8(help) else {
         return false;
     };
-    text.contains("Example:\n  s10 ") && names_options(text, words)
+    let has_example = text.contains("Example:\n  s10 ") || text.contains("Examples:\n  s10 ");
+    has_example && names_options(text, words)
 }
 
 /// Returns whether the help text of the subcommand has an example, and names each option of the

@@ -90,6 +90,21 @@ const CASES: &[(&str, JobStatus, &str)] = &[
         JobStatus::Failed,
         "ledger not-a-ledger\n",
     ),
+    (
+        "s10 report --snapshot --ledger nowhere/a.db --issues",
+        JobStatus::Failed,
+        "ledger store\n",
+    ),
+    (
+        "s10 audit --snapshot --ledger nothing.db",
+        JobStatus::Failed,
+        "ledger not-a-ledger\n",
+    ),
+    (
+        "s10 copy --ledger nothing.db --to nowhere/copy.db",
+        JobStatus::Failed,
+        "ledger not-a-ledger\n",
+    ),
 ];
 
 #[test]
@@ -123,6 +138,16 @@ const UNSEEDED: &[(&str, JobStatus, &str)] = &[
     ),
     (
         "s10 audit --ledger nothing.db",
+        JobStatus::Failed,
+        "ledger store\n",
+    ),
+    (
+        "s10 audit --snapshot --ledger nothing.db",
+        JobStatus::Failed,
+        "ledger store\n",
+    ),
+    (
+        "s10 copy --ledger nothing.db --to nowhere/copy.db",
         JobStatus::Failed,
         "ledger store\n",
     ),
