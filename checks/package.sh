@@ -4,8 +4,8 @@
 #     bash checks/package.sh [PROGRAM]
 #
 # The package is built where git knows no name: it must have a maintainer, be the same byte for byte when it is built again, and
-# have each page that its pages name. Then the command of the unit is run without systemd, with the program in each folder that a
-# page installs it into. A tool that the machine lacks is named, and what needs it is skipped.
+# have each page that its pages name. Then the commands of the unit, which start and stop the server, are run without systemd, with
+# the program in each folder that a page installs it into. A tool that the machine lacks is named, and what needs it is skipped.
 set -eu -o pipefail
 
 top=$(readlink -f "$(dirname "$(readlink -f "${BASH_SOURCE[0]}")")/..")
@@ -54,17 +54,35 @@ if have dpkg-deb dpkg-shlibdeps dpkg-architecture git strip; then
     echo "ok: $(basename "$package"), $(find "$dir/unpacked/usr/share/doc/s10" -name '*.md' | wc -l) pages"
 fi
 
-# Runs the command of the unit, with its settings, in which the folders of programs are below a folder of ours. Prints its lines
-# and its status.
+# Prints a command of the unit, in which its folder for a run is below a folder of ours.
 unit=$top/contrib/s10.service
+command_of() { # NAME
+    sed -n "s/^$1=//p" "$unit" | sed 's/\$\$/$/g' | sed "s|/run/s10/|$dir/run/|g"
+}
+
+# Starts the server by the command of the unit, with its settings, in which the folders of programs are below a folder of ours.
+# Prints its lines and its status.
 unit() { # SETTING..
-    local settings command
+    local settings
     settings=$(sed -n 's/^Environment=//p' "$unit" |
         sed "s|/usr/local/bin|$dir/usr/local/bin|; s|:/usr/bin|:$dir/usr/bin:/usr/bin|")
-    command=$(sed -n 's/^ExecStart=//p' "$unit" | sed 's/\$\$/$/g')
     # Word splitting separates the settings.
     # shellcheck disable=SC2086
-    (cd "$dir/state" && env -i $settings "$@" bash -c "$command" 2>"$dir/words") || echo "status $?"
+    (cd "$dir/state" && exec env -i $settings "$@" bash -c "$(command_of ExecStart)" 2>"$dir/words") || echo "status $?"
+}
+
+# Starts the server, and stops it by the command of the unit once it serves. Prints its lines, and its status if that is not 0.
+start_and_stop() {
+    rm -rf "$dir/run" && mkdir "$dir/run"
+    unit S10_BIND=127.0.0.1:0 >"$dir/lines" &
+    for _ in $(seq 100); do
+        ! grep -q '^serving on ' "$dir/words" 2>/dev/null || break
+        sleep 0.1
+    done
+    # The process that runs the server is a child of the one that waits for its status.
+    timeout 20 env -i PATH="$PATH" MAINPID="$(pgrep -o -P $!)" bash -c "$(command_of ExecStop)" || echo "stop: status $?"
+    wait $!
+    cat "$dir/lines"
 }
 
 # The unit names the services that can delay time-sync.target. Those on this machine are ordered before it.
@@ -80,14 +98,15 @@ mkdir "$dir/state"
 for folder in usr/local/bin usr/bin; do
     rm -rf "${dir:?}/usr"
     install -D "$s10" "$dir/$folder/s10"
-    came=$(unit S10_BIND=127.0.0.1:0 S10_COUNT=2)
+    : >"$dir/words"
+    came=$(start_and_stop)
     grep -q '^serving on ' "$dir/words" || fail "the unit with the program in $folder: $(cat "$dir/words")"
     [ -z "$came" ] || fail "the unit prints $came"
 done
 came=$(unit S10_BIND=nowhere)
 [ "$came" = "$(printf 'refused peer\nstatus 1')" ] || fail "the unit prints $came at no address"
-came=$(unit S10_COUNT=none)
-[ "$came" = 'status 2' ] || fail "the unit prints $came without a count"
 came=$(unit S10_DAYS_AHEAD=none)
 [ "$came" = 'status 2' ] || fail "the unit prints $came without days"
-echo 'ok: the command of the unit'
+came=$(unit S10_BIND=127.0.0.1:0)
+[ "$came" = "$(printf 'refused until\nstatus 1')" ] || fail "the unit prints $came after a stop whose file is still there"
+echo 'ok: the commands of the unit'
