@@ -424,24 +424,6 @@ def label_by_notes(room, command):
     room.stop()
 
 
-def serve_in_a_loop(room, command):
-    """Runs the script that serves and copies, with few turns, until it has made two copies."""
-    text = command.text.replace("--count 90000", "--count 1")
-    copies = room.folder / "audits"
-    with open(copies, "w", encoding="utf-8") as output:
-        loop = subprocess.Popen(
-            ["bash", "-c", room.ours(text)], cwd=room.folder, env=room.env, stdout=output, stderr=subprocess.DEVNULL, start_new_session=True
-        )
-        end = time.monotonic() + 120
-        while time.monotonic() < end and copies.read_text(encoding="utf-8").count("\n") < 2:
-            time.sleep(0.2)
-        os.killpg(loop.pid, signal.SIGTERM)
-        loop.wait()
-    lines = copies.read_text(encoding="utf-8").splitlines()
-    if len(lines) < 2 or not all(re.fullmatch(r"ledger ok \d+", line) for line in lines):
-        raise Failure("\n".join([command.where(), *lines]))
-
-
 def copy_of_a_killed_server(room, command):
     """Copies both files after a server was killed after a grant and five draws."""
     room.serve_new(0, 9, draws=5)
@@ -460,12 +442,19 @@ def copy_without_its_log(room, command):
     room.stop()
 
 
-def copy_while_served(room, command):
+def copy_served(room, command):
+    """Copies a ledger with a grant and five draws while it is served."""
+    room.serve_new(0, 9, draws=5)
+    run_and_compare(room, command)
+    room.stop()
+
+
+def count_answered(room, command):
     """Runs the script that copies a ledger which is being served. The copy must have each answered call."""
     room.serve_new(0, 9, draws=3)
     room.settle(4)
     status, came = room.run(command.text)
-    found = re.fullmatch(r"ledger ok (\d+)\nanswered before: (\d+)", "\n".join(came))
+    found = re.fullmatch(r"copied (\d+)\nanswered before: (\d+)", "\n".join(came))
     if status != 0 or not found or not 4 == int(found[2]) <= int(found[1]):
         raise Failure("\n".join([command.where(), *came]))
     room.stop()
@@ -478,10 +467,10 @@ OPERATING = {
     'ask="--to': label_by_notes,
     "s10 withdraw": withdraw,
     "s10 serve": serve_and_stop,
-    "while s10 serve": serve_in_a_loop,
     "cp ledger copy &&": copy_of_a_killed_server,
     "rm copy-wal": copy_without_its_log,
-    "answered=": copy_while_served,
+    "s10 copy": copy_served,
+    "answered=": count_answered,
 }
 
 
