@@ -8,3 +8,4 @@ pub mod LastRows
 pub mod IssueLemmas
 pub mod Voiding
 pub mod WrittenLemmas
+pub mod Rested

@@ -6,16 +6,18 @@ use Rattle.s10_history.specs.declared.entry.Entry.{Entry}
 use Rattle.s10_history.specs.Issues.{carried_by}
 use Rattle.s10_ranges.specs.declared.hash_seed.HashSeed.{HashSeed}
 use Rattle.s10_ranges.specs.Mirror.{Mirrors}
+use Rattle.s10_ranges.specs.Rests.{AreRests, HasRoomForRest}
 use Rattle.s10_ranges.specs.Room.{HasRoom}
 use Rattle.s10_index.specs.declared.call_index.CallIndex.{CallIndex}
 use Rattle.s10_index.specs.Positions.{HasPositions}
 use Rattle.s10_index.specs.LastIssues.{HasIssues}
 
--- An index holds a history if it has its calls with the index of each, its ranges with their marks,
--- and the last issue of each identifier.
+-- An index holds a history if it has its calls with the index of each, its ranges with their marks
+-- and rests, and the last issue of each identifier.
 pub record Indexes (index : CallIndex) (h : List Entry) : Type 0 where
   pub calls : index.entries.items ≡ h
   pub ranges : Mirrors index.ranges h
+  pub rests : AreRests h index.rests.list.items
   pub positions : HasPositions index.positions h
   pub issues : HasIssues index.issues h
 
@@ -23,6 +25,7 @@ pub record Indexes (index : CallIndex) (h : List Entry) : Type 0 where
 pub record HasRoomFor (index : CallIndex) (e : Entry) : Type 0 where
   pub calls : 0 < index.entries.room
   pub ranges : HasRoom index.ranges
+  pub rests : HasRoomForRest index.rests
   pub positions : 0 < spare index.positions
   pub issues : length (carried_by e.outcome) ≤ spare index.issues
 

@@ -1,15 +1,16 @@
 //! Calls with an index.
 
 ghost use Rattle.std.specs.Prelude.{◌≡◌, ◌∷◌, ◌++◌, [], ◌<◌, OnOk, IfSome, IsTrue, All, Contains};
-ghost use Rattle.std.specs.Prelude.{List, length};
+ghost use Rattle.std.specs.Prelude.{List, length, find, not, ◌&&◌};
 ghost use Rattle.s10_wire.specs.Kind.{fits};
 ghost use Rattle.s10_history.specs.declared.entry.Entry.{Entry};
 ghost use Rattle.s10_history.specs.Settings.{Terms};
-ghost use Rattle.s10_history.specs.History.{day_of, ranges_of, find_entry, entry_at};
+ghost use Rattle.s10_history.specs.History.{day_of, ranges_of, find_entry, entry_at, is_closed};
 ghost use Rattle.s10_history.specs.Issues.{issues_of, last_issuance_of, last_issue_of};
 ghost use Rattle.s10_history.specs.Issues.{candidate_after_of, size_of, pick_of};
-ghost use Rattle.s10_book.specs.Rules.{IsLegal, MayFollow};
+ghost use Rattle.s10_book.specs.Rules.{IsLegal, MayFollow, has_free_pick, is_free_after};
 ghost use Rattle.s10_ranges.specs.Moves.{AreMoves};
+ghost use Rattle.s10_ranges.specs.Rests.{rest_of};
 
 use crate::call_key::CallKey;
 use crate::call_log::CallLog;
@@ -17,13 +18,14 @@ use crate::id_key::IdKey;
 use crate::last_issues::{record_call, recorded_issue};
 use crate::positions::{find_in, position_of, record_position};
 use s10_core::{Id, Serial};
-use s10_history::{Candidate, Entry, Issuance, Issue, Range};
-use s10_ranges::{HashSeed, MarkMove, Ranges};
+use s10_history::{Candidate, Entry, HolderKey, Issuance, Issue, Range, is_free};
+use s10_ranges::{HashSeed, Lap, MarkMove, Ranges, Rest, Rests};
+use s10_wire::Body;
 use std::alloc::{AllocError, Global};
 use std::collections::HashMap;
 
-/// Calls held in the process, with their ranges and marks. Maps find a call by its key, and the
-/// last issue of an identifier.
+/// Calls held in the process, with their ranges, marks and rests. Maps find a call by its key, and
+/// the last issue of an identifier.
 ///
 /// Any call can be added. What the reads return is that of a history only if the calls are one
 /// (`Indexes`). The maps are hash maps, and `Ranges` searches by halving: no read walks the calls.
@@ -33,6 +35,8 @@ pub struct CallIndex {
     pub(crate) entries: CallLog,
     /// The ranges of the calls, with their marks.
     pub(crate) ranges: Ranges,
+    /// What is known of the ranges that give nothing for a while.
+    rests: Rests,
     /// The index of each call in `entries`, from 0.
     positions: HashMap<CallKey, u32, HashSeed>,
     /// The last issue of each identifier.
@@ -53,6 +57,7 @@ impl CallIndex {
         CallIndex {
             entries: CallLog::new(alloc),
             ranges: Ranges::new(alloc, seed),
+            rests: Rests::new(alloc),
             positions: HashMap::with_hasher(alloc, seed),
             issues: HashMap::with_hasher(alloc, seed),
             moves: Vec::new(alloc),
@@ -163,6 +168,105 @@ impl CallIndex {
         Candidate { serial, issue }
     }
 
+    // Returns the rest of a range of its own: closed, or the last issue of its pick.
+    fn rest(&self, range: &Range) -> Rest
+        ensures { (h : List Entry) → Indexes self.now h → Contains (ranges_of h) range.now
+            → result ≡ rest_of h range.now }
+    {
+        if self.ranges.is_closed(range.num) {
+            return Rest::Closed;
+        }
+        let serial = self.pick(range);
+        match self.last_issue(&range.id(serial)) {
+            None => Rest::Unknown,
+            Some(issue) => Rest::Issued {
+                serial,
+                day: issue.day,
+            },
+        }
+    }
+
+    // Returns whether a range of its own is open, and its pick free on the day.
+    fn is_free(&self, range: &Range, day: u32, interval: u32) -> bool
+        ensures { (h : List Entry) → Indexes self.now h → Contains (ranges_of h) range.now
+            → result ≡ (not (is_closed h range.now.num)
+            && has_free_pick (issues_of h) day interval range.now) }
+    {
+        if self.ranges.is_closed(range.num) {
+            return false;
+        }
+        let serial = self.pick(range);
+        let issue = self.last_issue(&range.id(serial));
+        is_free(&issue, day, interval)
+    }
+
+    /// Returns the open range of least number above `after` with that holder, service and country
+    /// whose pick is free on `day`, or `None`.
+    ///
+    /// Takes one comparison for each range that it passes over.
+    pub fn next_free_range(
+        &self,
+        held: &HolderKey,
+        after: u32,
+        day: u32,
+        interval: u32,
+    ) -> Option<Range>
+        ensures { (h : List Entry) → Indexes self.now h
+            → result ≡ find (is_free_after h after held.now.holder held.now.service held.now.country
+            day interval) (ranges_of h) }
+    {
+        let mut past = after;
+        while let Some(range) = self
+            .ranges
+            .next_awake_range(&self.rests, held, past, day, interval)
+        {
+            if self.is_free(&range, day, interval) {
+                return Some(range);
+            }
+            past = range.num;
+        }
+        None
+    }
+
+    // Sets the rest of the range with the number `num`, if there is one.
+    fn set_rest(&mut self, num: u32)
+        ensures calls { self.new.entries ≡ self.old.entries }
+        ensures moves { self.new.moves ≡ self.old.moves }
+        ensures same { (h : List Entry) → Indexes self.old h → Indexes self.new h }
+    {
+        if let Some(range) = self.ranges.range_by_number(num) {
+            let rest = self.rest(&range);
+            self.rests.set(num, rest);
+        }
+    }
+
+    // Sets the rest of each range whose mark the call that was prepared last moved. In its first lap a
+    // range has no rest: its pick was never issued.
+    fn set_moved_rests(&mut self)
+        ensures calls { self.new.entries ≡ self.old.entries }
+        ensures same { (h : List Entry) → Indexes self.old h → Indexes self.new h }
+    {
+        let mut last = 0;
+        for place in 0..self.moves.len() {
+            let next = self.moves[place];
+            if next.mark.lap == Lap::Later && next.num != last {
+                self.set_rest(next.num);
+                last = next.num;
+            }
+        }
+    }
+
+    // Sets the rest of each range whose mark the call moved, or that it closed.
+    fn set_rests(&mut self, entry: &Entry)
+        ensures calls { self.new.entries ≡ self.old.entries }
+        ensures same { (h : List Entry) → Indexes self.old h → Indexes self.new h }
+    {
+        if let Body::Withdraw { range } = entry.request.body {
+            self.set_rest(range);
+        }
+        self.set_moved_rests();
+    }
+
     /// Reserves memory for a call and all that it records, and computes how it moves the marks. The
     /// calls stay the same.
     ///
@@ -178,6 +282,7 @@ impl CallIndex {
     {
         self.ranges.moves_of(entry, &mut self.moves)?;
         self.ranges.reserve()?;
+        self.rests.reserve()?;
         self.positions.reserve(1)?;
         self.issues.reserve(entry.issued())?;
         self.entries.reserve()
@@ -197,8 +302,10 @@ impl CallIndex {
     {
         let place = self.calls().len() as u32;
         self.ranges.follow(&entry, &self.moves);
+        self.rests.follow(&entry);
         record_position(&mut self.positions, &entry, place);
         record_call(&mut self.issues, &entry);
         self.entries.push_reserved(entry);
+        self.set_rests(&entry);
     }
 }

@@ -9,7 +9,7 @@ ghost use Rattle.s10_history.specs.Issues.{last_issue_of, candidate_of, candidat
 ghost use Rattle.s10_history.specs.Issues.{size_of};
 ghost use Rattle.s10_history.specs.Usage.{usage_of, CountsSerials};
 ghost use Rattle.s10_history.specs.declared.settings.TheConstants.{MAX_LIMIT};
-ghost use Rattle.s10_book.specs.Rules.{IsLegal, MayFollow};
+ghost use Rattle.s10_book.specs.Rules.{IsLegal, MayFollow, is_free_after};
 ghost use Rattle.s10_book.specs.BookFault.{CountsResult, no_faults};
 ghost use Rattle.s10_index.specs.CallIndex.{Indexes, HashesWith};
 
@@ -177,6 +177,23 @@ impl Book for IndexedBook {
             .ranges()
             .next_open_range(held.holder, held.service, held.country, after);
         Ok(next)
+    }
+
+    fn next_free_range(
+        &mut self,
+        held: &HolderKey,
+        after: u32,
+        day: u32,
+    ) -> Result<Option<Range>, BookFault>
+        ensures same { self.new ≡ self.old }
+        ensures answer { result
+            ≡ Ok (find (is_free_after (⟦<IndexedBook as Book>⟧.history self.old) after
+            held.now.holder held.now.service held.now.country day
+            (⟦<IndexedBook as Book>⟧.terms self.old).interval)
+            (ranges_of (⟦<IndexedBook as Book>⟧.history self.old))) }
+    {
+        let interval = self.settings.interval();
+        Ok(self.index.next_free_range(held, after, day, interval))
     }
 
     fn covering(&mut self, span: &SerialSpan) -> Result<Option<Range>, BookFault>
