@@ -1,24 +1,29 @@
 -- Reports, one line after another.
-use Rattle.std.proofs.Common.{◌≡◌, ℕ, zero, suc, ◌+◌, ◌<◌, ◌≤◌, true, false, List, [], ◌∷◌, ◌++◌}
-use Rattle.std.proofs.Common.{length, take, drop, map, Option, Some, None, refl, sym, ap, subst}
-use Rattle.std.proofs.Common.{◌∙◌, ◌⊎◌, inl, inr, arith, append_assoc}
-use Rattle.std.specs.Prelude.{find, slice_get, ◌==◌, Result, Ok, Err, IsErrAnd}
+use Rattle.std.proofs.Common.{◌≡◌, ℕ, zero, suc, ◌+◌, ◌<◌, ◌≤◌, Bool, true, false, cond, List, []}
+use Rattle.std.proofs.Common.{◌∷◌, ◌++◌, length, take, drop, map, Option, Some, None, refl, sym, ap}
+use Rattle.std.proofs.Common.{subst, ◌∙◌, ◌⊎◌, inl, inr, arith, append_assoc}
+use Rattle.std.specs.Prelude.{filter, find, slice_get, ◌==◌, nat_le, ◌&&◌, Result, Ok, Err, IsErrAnd}
 use Rattle.std.specs.Io.KnownBytes.{Appends}
-use Rattle.std.proofs.lemmas.Bool.{cases_order, eqb-true, eqb-false}
-use Rattle.std.proofs.Math.Seq.{take-append-add}
+use Rattle.std.proofs.lemmas.Bool.{cases_order, eqb-true, eqb-false, le-leb}
+use Rattle.std.proofs.Math.Seq.{take-append-add, take-append_seam, take-length}
 use Rattle.std.proofs.lemmas.Option.{none-some, same_Some, slice_get_within, get_or_from_slice_get}
 use Rattle.std.proofs.lemmas.List.{append-nil, take_all, take_more, take-append-drop}
-use Rattle.std.proofs.lemmas.List.{take-append-le, length-take-le, map-append}
+use Rattle.std.proofs.lemmas.List.{take-append-le, length-take-le, map-append, map-id}
+use Rattle.std.proofs.lemmas.List.Elements.{filter-append}
 use Rattle.std.proofs.lemmas.Grind.{flat_map-append, common_steps}
 use Rattle.s10_lines.proofs.Writing.{Appends-then}
+use Rattle.s10_core.specs.declared.id.Id.{Id}
 use Rattle.s10_history.specs.declared.entry.Entry.{Entry}
 use Rattle.s10_history.specs.declared.range.Range.{Range}
 use Rattle.s10_history.specs.declared.issuance.Issuance.{Issuance}
-use Rattle.s10_history.specs.History.{ranges_of, entry_at, is_closed}
-use Rattle.s10_history.specs.Issues.{issues_of, issues_from, issues_at, last_issue_of}
-use Rattle.s10_history.specs.Usage.{usage_of}
-use Rattle.s10_reports.specs.Reports.{joined, range_line, ranges_header, ranges_report, issue_line}
-use Rattle.s10_reports.specs.Reports.{issue_lines, issues_header, issues_report}
+use Rattle.s10_history.specs.History.{ranges_of, entry_at, lies_in, overlaps}
+use Rattle.s10_history.specs.Issues.{carried_by, issues_of, issues_from, issues_at}
+use Rattle.s10_reports.specs.declared.range_filter.RangeFilter.{RangeFilter}
+use Rattle.s10_reports.specs.declared.issues_report.IssuesReport.{IssuesReport}
+use Rattle.s10_reports.specs.declared.report_format.ReportFormat.{ReportFormat}
+use Rattle.s10_reports.specs.Filters.{range_with}
+use Rattle.s10_reports.specs.Reports.{joined, lines_of, range_lines, ranges_heading, ranges_report}
+use Rattle.s10_reports.specs.Reports.{issue_lines, issues_heading, issues_report}
 use Rattle.s10_reports.specs.declared.report_fault.ReportFault.{ReportFault}
 use Rattle.s10_reports.specs.declared.report_fault.ReportFault.TheVariants.{Book, Write}
 use Rattle.s10_reports.specs.ReportFault.{Reported}
@@ -30,16 +35,6 @@ pub joined_one : (u v : Option (List ℕ)) (line : List ℕ) → Appends u v lin
     → Appends u v (joined (line ∷ []))
 joined_one u v line written = let P : List ℕ → Type 0 = λ text. Appends u v text in
     subst P (sym (append-nil line)) written
-
--- One more line.
-pub joined_more : (u v w : Option (List ℕ)) (lines : List (List ℕ)) (line : List ℕ)
-    → Appends u v (joined lines) → Appends v w line → Appends u w (joined (lines ++ line ∷ []))
-joined_more u v w lines line before written =
-    let P : List ℕ → Type 0 = λ text. Appends u w text in
-    let same : joined (lines ++ line ∷ []) ≡ joined lines ++ line =
-    flat_map-append (λ (x : List ℕ). x) lines (line ∷ []) ∙ ap (λ (t : List ℕ). joined lines ++ t)
-    (append-nil line) in
-    subst P (sym same) (Appends-then u v w (joined lines) line before written)
 
 first_taken : {X : Type 0} (f : Range → X) (n : ℕ) (x r : Range) (xs : List Range) → x.num ≡ n
     → (((x.num == n + 0) ≡ true) × (x ≡ r))
@@ -90,60 +85,146 @@ pub report_whole : (u v : Option (List ℕ)) (lines : List (List ℕ)) (k : ℕ)
 report_whole u v lines k all written = let P : List (List ℕ) → Type 0 =
     λ l. Appends u v (joined l) in subst P all written
 
--- One more line, for a list that is longer by it.
-report_more_by : (u v w : Option (List ℕ)) (lines longer : List (List ℕ)) (line : List ℕ)
-    → longer ≡ lines ++ line ∷ [] → Appends u v (joined lines) → Appends v w line
-    → Appends u w (joined longer)
-report_more_by u v w lines longer line more before written =
-    let P : List (List ℕ) → Type 0 = λ l. Appends u w (joined l) in
-    subst P (sym more) (joined_more u v w lines line before written)
-
--- One more line of a report.
-pub report_more : (u v w : Option (List ℕ)) (lines : List (List ℕ)) (k : ℕ) (line : List ℕ)
-    → take (k + 1) lines ≡ take k lines ++ line ∷ []
-    → Appends u v (joined (take k lines)) → Appends v w line
-    → Appends u w (joined (take (k + 1) lines))
-report_more u v w lines k line more before written =
-    report_more_by u v w (take k lines) (take (k + 1) lines) line more before written
-
 -- The first lines of a report.
 take_header : (header : List ℕ) (lines : List (List ℕ)) (n : ℕ) → take (n + 1) (header ∷ lines)
     ≡ header ∷ take n lines
 take_header header lines n = let on : n + 1 ≡ suc n = omega arith in
     ap (λ (m : ℕ). take m (header ∷ lines)) on
 
--- The report of the ranges has a line for each.
-pub ranges_all : (h : List Entry) (day interval n : ℕ) → length (ranges_of h) ≤ n
-    → take (n + 1) (ranges_report h day interval) ≡ ranges_report h day interval
-ranges_all h day interval n few =
-    take_all (n + 1) (ranges_report h day interval) (grind (arith, common_steps, few))
+-- The lines of the elements that pass a test.
+module _ {X : Type 0} (test : X → Bool) (line : X → List ℕ) where
+  lines_append : (xs ys : List X) → lines_of test line (xs ++ ys) ≡ lines_of test line xs
+      ++ lines_of test line ys
+  lines_append xs ys = ap (map line) (filter-append test xs ys)
+      ∙ map-append line (filter test xs) (filter test ys)
 
--- The line of the next range is the next line.
-pub ranges_next : (h : List Entry) (day interval n : ℕ) (r : Range)
-    → find (λ x. x.num == (n + 1)) (ranges_of h) ≡ Some r
-    → take (n + 1 + 1) (ranges_report h day interval) ≡ take (n + 1) (ranges_report h day interval)
-    ++ range_line r (usage_of h r day interval) (is_closed h r.num) ∷ []
-ranges_next h day interval n r found =
-    let f : Range → List ℕ = λ x. range_line x (usage_of h x day interval) (is_closed h x.num) in
-    let lines : List (List ℕ) = map f (ranges_of h) in
-    let on : n + 1 ≡ 1 + n = omega arith in
-    let next : n + 1 ≡ suc n = omega arith in
-    let here : find (λ x. x.num == (1 + n)) (ranges_of h) ≡ Some r =
-    ap (λ (m : ℕ). find (λ x. x.num == m) (ranges_of h)) (sym on) ∙ found in
-    take_header ranges_header lines (n + 1)
-    ∙ ap (λ (l : List (List ℕ)). ranges_header ∷ l) (ap (λ (m : ℕ). take m lines) next
-    ∙ next_taken f 1 n (ranges_of h) r (numbered 1 h) here)
-    ∙ ap (λ (l : List (List ℕ)). l ++ f r ∷ []) (sym (take_header ranges_header lines n))
+  front_lines : (all front rest : List X) → all ≡ front ++ rest
+      → take (length (lines_of test line front)) (lines_of test line all) ≡ lines_of test line front
+  front_lines all front rest split =
+      ap (λ (l : List X). take (length (lines_of test line front)) (lines_of test line l)) split
+      ∙ ap (take (length (lines_of test line front))) (lines_append front rest)
+      ∙ take-append_seam (lines_of test line front) (lines_of test line rest)
 
--- The number of issuances of the first k calls.
-abbrev pub issued_by : List Entry → ℕ → ℕ
-issued_by h k = length (issues_from 1 (take k h))
+  -- The lines of some elements, followed by those of the next ones.
+  pub more_lines : (all front more longer rest rest' : List X) → all ≡ front ++ rest
+      → all ≡ longer ++ rest' → longer ≡ front ++ more
+      → take (length (lines_of test line longer)) (lines_of test line all)
+      ≡ take (length (lines_of test line front)) (lines_of test line all) ++ lines_of test line more
+  more_lines all front more longer rest rest' split split' is =
+      front_lines all longer rest' split' ∙ ap (lines_of test line) is ∙ lines_append front more
+      ∙ ap (λ (l : List (List ℕ)). l ++ lines_of test line more)
+      (sym (front_lines all front rest split))
 
--- The lines of the first issuances.
-taken : (f : Issuance → List ℕ) (some more : List Issuance)
-    → take (length some) (map f (some ++ more)) ≡ map f some
-taken f [] more = refl
-taken f (i ∷ some) more = ap (λ (l : List (List ℕ)). f i ∷ l) (taken f some more)
+  -- The same after a heading.
+  pub more_lines_after : (heading : List ℕ) (all front more longer rest rest' : List X)
+      → all ≡ front ++ rest → all ≡ longer ++ rest' → longer ≡ front ++ more
+      → take (length (lines_of test line longer) + 1) (heading ∷ lines_of test line all)
+      ≡ take (length (lines_of test line front) + 1) (heading ∷ lines_of test line all)
+      ++ lines_of test line more
+  more_lines_after heading all front more longer rest rest' split split' is =
+      take_header heading (lines_of test line all) (length (lines_of test line longer))
+      ∙ ap (λ (l : List (List ℕ)). heading ∷ l)
+      (more_lines all front more longer rest rest' split split' is)
+      ∙ ap (λ (l : List (List ℕ)). l ++ lines_of test line more)
+      (sym (take_header heading (lines_of test line all) (length (lines_of test line front))))
+
+  -- All lines.
+  pub all_lines : (heading : List ℕ) (all front : List X) → front ≡ all
+      → take (length (lines_of test line front) + 1) (heading ∷ lines_of test line all)
+      ≡ heading ∷ lines_of test line all
+  all_lines heading all front is =
+      take_header heading (lines_of test line all) (length (lines_of test line front))
+      ∙ ap (λ (l : List X). heading ∷ take (length (lines_of test line l)) (lines_of test line all))
+      is ∙ ap (λ (l : List (List ℕ)). heading ∷ l) (take-length (lines_of test line all))
+
+  -- The line of one element.
+  pub one_line : (x : X) → test x ≡ true → lines_of test line (x ∷ []) ≡ line x ∷ []
+  one_line x passes = ap (λ (b : Bool). map line (cond b (x ∷ []) [])) passes
+
+  pub no_line : (x : X) → test x ≡ false → lines_of test line (x ∷ []) ≡ []
+  no_line x fails = ap (λ (b : Bool). map line (cond b (x ∷ []) [])) fails
+
+-- The first k+1 elements are the first k and the next.
+pub next_range : (h : List Entry) (done : ℕ) (r : Range)
+    → find (λ x. x.num == (done + 1)) (ranges_of h) ≡ Some r
+    → take (done + 1) (ranges_of h) ≡ take done (ranges_of h) ++ r ∷ []
+next_range h done r found =
+    let one : done + 1 ≡ 1 + done = omega arith in
+    let there : find (λ x. x.num == (1 + done)) (ranges_of h) ≡ Some r =
+    sym (ap (λ (m : ℕ). find (λ x. x.num == m) (ranges_of h)) one) ∙ found in
+    let next = next_taken (λ (x : Range). x) 1 done (ranges_of h) r (numbered 1 h) there in
+    let same : map (λ (x : Range). x) (ranges_of h) ≡ ranges_of h = map-id (ranges_of h) in
+    let up : done + 1 ≡ suc done = omega arith in
+    ap (λ (n : ℕ). take n (ranges_of h)) up
+    ∙ sym (ap (λ (l : List Range). take (suc done) l) same) ∙ next
+    ∙ ap (λ (l : List Range). take done l ++ r ∷ []) same
+
+-- Nothing was written.
+pub Appends-none : (u : Option (List ℕ)) → Appends u u []
+Appends-none None = tt
+Appends-none (Some xs) = sym (append-nil xs)
+
+-- A line was written, for an element that passes.
+pub line_written : (u v : Option (List ℕ)) (lines : List (List ℕ)) (line : List ℕ)
+    → lines ≡ line ∷ [] → Appends u v line → Appends u v (joined lines)
+line_written u v lines line is written =
+    subst (λ (l : List (List ℕ)). Appends u v (joined l)) (sym is) (joined_one u v line written)
+
+-- No line was written, for one that does not.
+pub nothing_written : (u : Option (List ℕ)) (lines : List (List ℕ)) → lines ≡ []
+    → Appends u u (joined lines)
+nothing_written u lines is =
+    subst (λ (l : List (List ℕ)). Appends u u (joined l)) (sym is) (Appends-none u)
+
+-- No line was written before a fault.
+pub none_before : (u : Option (List ℕ)) (lines : List (List ℕ)) → (count : ℕ)
+    × Appends u u (joined (take count lines))
+none_before u lines = (0, Appends-none u)
+
+-- The number of lines of the first ranges of a report.
+abbrev pub ranges_by : RangeFilter → ReportFormat → List Entry → ℕ → ℕ → ℕ → ℕ
+ranges_by filter format h day interval done =
+    length (range_lines filter format h day interval (take done (ranges_of h)))
+
+-- The report of the ranges has the lines of all.
+pub ranges_all : (filter : RangeFilter) (format : ReportFormat) (h : List Entry)
+    (day interval done : ℕ) → length (ranges_of h) ≤ done
+    → take (ranges_by filter format h day interval done + 1)
+    (ranges_report filter format h day interval)
+    ≡ ranges_report filter format h day interval
+ranges_all filter format h day interval done few =
+    all_lines _ _ (ranges_heading format) (ranges_of h) (take done (ranges_of h))
+    (take_all done (ranges_of h) few)
+
+-- The lines of the next range are the next lines.
+pub ranges_next : (filter : RangeFilter) (format : ReportFormat) (h : List Entry)
+    (day interval done : ℕ) (r : Range) → find (λ x. x.num == (done + 1)) (ranges_of h) ≡ Some r
+    → take (ranges_by filter format h day interval (done + 1) + 1)
+    (ranges_report filter format h day interval)
+    ≡ take (ranges_by filter format h day interval done + 1)
+    (ranges_report filter format h day interval)
+    ++ range_lines filter format h day interval (r ∷ [])
+ranges_next filter format h day interval done r found =
+    more_lines_after _ _ (ranges_heading format) (ranges_of h) (take done (ranges_of h)) (r ∷ [])
+    (take (done + 1) (ranges_of h)) (drop done (ranges_of h)) (drop (done + 1) (ranges_of h))
+    (sym (take-append-drop done (ranges_of h))) (sym (take-append-drop (done + 1) (ranges_of h)))
+    (next_range h done r found)
+
+-- The range that covers an identifier is the one in which it lies.
+pub covered : (h : List Entry) (x : Id)
+    → find (overlaps x.service x.country x.serial x.serial) (ranges_of h) ≡ range_with h x
+covered h x = ap (λ (test : Range → Bool). find test (ranges_of h)) (λ i r. same_test r i)
+  where
+    and_true : (a b : Bool) → b ≡ true → (a && b) ≡ a
+    and_true true b e = e
+    and_true false b e = refl
+    same_test : (r : Range) → overlaps x.service x.country x.serial x.serial r ≡ lies_in r x
+    same_test r = and_true (lies_in r x) (nat_le x.serial x.serial)
+        (le-leb x.serial x.serial (omega arith))
+
+-- The number of lines of the issuances of the first calls.
+abbrev pub issued_by : IssuesReport → List Entry → ℕ → ℕ
+issued_by report h k = length (issue_lines report h (issues_from 1 (take k h)))
 
 entry_is : (h : List Entry) (k : ℕ) → entry_at h (k + 1) ≡ slice_get h k
 entry_is h k = let on : k + 1 ≡ suc k = omega arith in ap (entry_at h) on
@@ -178,47 +259,49 @@ issues_split : (h : List Entry) (k : ℕ) → issues_from 1 h ≡ issues_from 1 
 issues_split h k = ap (λ (l : List Entry). issues_from 1 l) (sym (take-append-drop k h))
     ∙ issues_from-append 1 (take k h) (drop k h)
 
-front_lines : (h : List Entry) (k : ℕ) (f : Issuance → List ℕ)
-    → take (issued_by h k) (map f (issues_of h)) ≡ map f (issues_from 1 (take k h))
-front_lines h k f =
-    ap (λ (l : List Issuance). take (issued_by h k) (map f l)) (issues_split h k)
-    ∙ taken f (issues_from 1 (take k h)) (issues_from (1 + length (take k h)) (drop k h))
-
 -- The lines of the issuances of one more call.
-pub call_lines : (h : List Entry) (k : ℕ) (o : Option Entry) (e : Entry) → o ≡ entry_at h (k + 1)
-    → o ≡ Some e
-    → take (issued_by h (k + 1) + 1) (issues_report h) ≡ take (issued_by h k + 1) (issues_report h)
-    ++ issue_lines h (issues_at (k + 1) e)
-call_lines h k o e is some =
-    let f : Issuance → List ℕ = λ x. issue_line x (last_issue_of h x.id) in
-    let all : List (List ℕ) = map f (issues_of h) in
-    let front : List Issuance = issues_from 1 (take k h) in
-    let lines : take (issued_by h (k + 1)) all ≡ take (issued_by h k) all
-    ++ map f (issues_at (k + 1) e) =
-    front_lines h (k + 1) f ∙ ap (map f) (issues_more h k o e is some)
-    ∙ map-append f front (issues_at (k + 1) e)
-    ∙ ap (λ (l : List (List ℕ)). l ++ map f (issues_at (k + 1) e)) (sym (front_lines h k f)) in
-    take_header issues_header all (issued_by h (k + 1))
-    ∙ ap (λ (l : List (List ℕ)). issues_header ∷ l) lines
-    ∙ ap (λ (l : List (List ℕ)). l ++ map f (issues_at (k + 1) e))
-    (sym (take_header issues_header all (issued_by h k)))
+pub call_lines : (report : IssuesReport) (h : List Entry) (k : ℕ) (o : Option Entry) (e : Entry)
+    → o ≡ entry_at h (k + 1) → o ≡ Some e
+    → take (issued_by report h (k + 1) + 1) (issues_report report h)
+    ≡ take (issued_by report h k + 1) (issues_report report h)
+    ++ issue_lines report h (issues_at (k + 1) e)
+call_lines report h k o e is some =
+    more_lines_after _ _ (issues_heading report.format) (issues_of h) (issues_from 1 (take k h))
+    (issues_at (k + 1) e) (issues_from 1 (take (k + 1) h))
+    (issues_from (1 + length (take k h)) (drop k h))
+    (issues_from (1 + length (take (k + 1) h)) (drop (k + 1) h)) (issues_split h k)
+    (issues_split h (k + 1)) (issues_more h k o e is some)
 
-next_line : (f : Issuance → List ℕ) (is : List Issuance) (k : ℕ) (i : Issuance)
-    → slice_get is k ≡ Some i → take (suc k) (map f is) ≡ take k (map f is) ++ f i ∷ []
-next_line f [] k i found = absurd (none-some i found)
-next_line f (x ∷ is) zero i found = ap (λ (y : Issuance). f y ∷ []) (same_Some x i found)
-next_line f (x ∷ is) (suc k) i found = ap (λ (l : List (List ℕ)). f x ∷ l)
-    (next_line f is k i found)
+issuance_next : (is : List Issuance) (k : ℕ) (i : Issuance) → slice_get is k ≡ Some i
+    → take (k + 1) is ≡ take k is ++ i ∷ []
+issuance_next is k i found =
+    let within : k < length is = slice_get_within is k i found in
+    take_more is k i within ∙ ap (λ (x : Issuance). take k is ++ x ∷ [])
+    (get_or_from_slice_get is k i i found)
 
--- The line of the next issuance of a call.
-pub issue_next : (h : List Entry) (is : List Issuance) (k : ℕ) (i : Issuance)
-    → slice_get is k ≡ Some i
-    → take (k + 1) (issue_lines h is) ≡ take k (issue_lines h is) ++ issue_line i
-    (last_issue_of h i.id) ∷ []
-issue_next h is k i found =
-    let on : k + 1 ≡ suc k = omega arith in
-    ap (λ (m : ℕ). take m (issue_lines h is)) on
-    ∙ next_line (λ x. issue_line x (last_issue_of h x.id)) is k i found
+-- The lines of the next issuance of a call.
+pub issue_next : (report : IssuesReport) (h : List Entry) (is : List Issuance) (k : ℕ)
+    (i : Issuance) → slice_get is k ≡ Some i
+    → take (length (issue_lines report h (take (k + 1) is))) (issue_lines report h is)
+    ≡ take (length (issue_lines report h (take k is))) (issue_lines report h is)
+    ++ issue_lines report h (i ∷ [])
+issue_next report h is k i found =
+    more_lines _ _ is (take k is) (i ∷ []) (take (k + 1) is) (drop k is) (drop (k + 1) is)
+    (sym (take-append-drop k is)) (sym (take-append-drop (k + 1) is)) (issuance_next is k i found)
+
+-- A call has an issuance for each identifier that it carries.
+pub issued_all : (arrival : ℕ) (e : Entry) → length (issues_at arrival e) ≡ length
+    (carried_by e.outcome)
+issued_all arrival e = grind (arith, common_steps)
+
+-- A call has the lines of all its issuances.
+pub call_whole : (report : IssuesReport) (h : List Entry) (is : List Issuance) (k : ℕ)
+    → length is ≤ k
+    → take (length (issue_lines report h (take k is))) (issue_lines report h is)
+    ≡ issue_lines report h is
+call_whole report h is k past =
+    ap (λ (l : List Issuance). take (length (issue_lines report h l)) (issue_lines report h is))
+    (take_all k is past) ∙ take-length (issue_lines report h is)
 
 -- The lines of the calls so far, followed by those of the next call.
 pub call_written : (u v w : Option (List ℕ)) (front part all : List (List ℕ)) → all ≡ front ++ part
@@ -284,11 +367,9 @@ report_cut {T = T} u v w all m n part fault (Err e) passed is before cut =
     let P : ReportFault → Type 0 = λ f. Reported {T = T} u w all (Err f) in
     subst P (sym passed) (cut_by T u v w all m n part fault is before cut)
 
--- The report of the issuances has a line for each issuance of all calls.
-pub issues_all : (h : List Entry) (k : ℕ) → length h ≤ k
-    → take (issued_by h k + 1) (issues_report h) ≡ issues_report h
-issues_all h k past =
-    let f : Issuance → List ℕ = λ x. issue_line x (last_issue_of h x.id) in
-    take_header issues_header (map f (issues_of h)) (issued_by h k)
-    ∙ ap (λ (l : List (List ℕ)). issues_header ∷ l) (front_lines h k f
-    ∙ ap (λ (l : List Entry). map f (issues_from 1 l)) (take_all k h past))
+-- The report of the issuances has the lines of all calls.
+pub issues_all : (report : IssuesReport) (h : List Entry) (k : ℕ) → length h ≤ k
+    → take (issued_by report h k + 1) (issues_report report h) ≡ issues_report report h
+issues_all report h k past =
+    all_lines _ _ (issues_heading report.format) (issues_of h) (issues_from 1 (take k h))
+    (ap (λ (l : List Entry). issues_from 1 l) (take_all k h past))

@@ -13,21 +13,7 @@ use Rattle.s10_history.specs.Usage.{usage_of}
 use Rattle.s10_history.proofs.Numbering.{numbered}
 use Rattle.s10_reports.specs.Info.{drawable, tally_of}
 use Rattle.s10_reports.specs.declared.info_report.Tally.{Tally}
-use Rattle.s10_reports.proofs.Reporting.{next_taken}
-
-range_next : (h : List Entry) (done : ℕ) (r : Range)
-    → find (λ x. x.num == (done + 1)) (ranges_of h) ≡ Some r
-    → take (done + 1) (ranges_of h) ≡ take done (ranges_of h) ++ r ∷ []
-range_next h done r found =
-    let one : done + 1 ≡ 1 + done = omega arith in
-    let there : find (λ x. x.num == (1 + done)) (ranges_of h) ≡ Some r =
-    sym (ap (λ (m : ℕ). find (λ x. x.num == m) (ranges_of h)) one) ∙ found in
-    let next = next_taken (λ (x : Range). x) 1 done (ranges_of h) r (numbered 1 h) there in
-    let same : map (λ (x : Range). x) (ranges_of h) ≡ ranges_of h = map-id (ranges_of h) in
-    let up : done + 1 ≡ suc done = omega arith in
-    ap (λ (n : ℕ). take n (ranges_of h)) up
-    ∙ sym (ap (λ (l : List Range). take (suc done) l) same) ∙ next
-    ∙ ap (λ (l : List Range). take done l ++ r ∷ []) same
+use Rattle.s10_reports.proofs.Reporting.{next_range}
 
 one_longer : (front : List Range) (r : Range) → length (front ++ r ∷ []) ≡ length front + 1
 one_longer front r = grind (arith, common_steps)
@@ -55,7 +41,7 @@ pub tally_more : (h : List Entry) (day interval done one free : ℕ) (r : Range)
 tally_more h day interval done one free r u closed t found before usage is_shut ones frees =
     let all : List Range = take (done + 1) (ranges_of h) in
     let front : List Range = take done (ranges_of h) in
-    let more : all ≡ front ++ r ∷ [] = range_next h done r found in
+    let more : all ≡ front ++ r ∷ [] = next_range h done r found in
     let ranges : t.ranges + 1 ≡ length all =
     ap (λ (x : Tally). x.ranges + 1) before
     ∙ sym (ap length more ∙ one_longer front r) in

@@ -1,13 +1,18 @@
 //! The report of the ranges.
 
-ghost use Rattle.std.specs.Prelude.{[], ◌∷◌, decimal, OnOk};
+ghost use Rattle.std.specs.Prelude.{◌≡◌, [], ◌∷◌, decimal, Contains, OnOk};
 ghost use Rattle.std.specs.Io.KnownBytes.{Appends};
 ghost use Rattle.s10_lines.specs.Lines.{spaced};
+ghost use Rattle.s10_history.specs.History.{ranges_of};
 ghost use Rattle.s10_book.specs.Book.{Unchanged};
-ghost use Rattle.s10_reports.specs.Reports.{range_line, closed_words, ranges_report};
+ghost use Rattle.s10_reports.specs.Reports.{closed_words, range_line, range_lines, range_text};
+ghost use Rattle.s10_reports.specs.Reports.{ranges_heading, ranges_report};
 ghost use Rattle.s10_reports.specs.ReportFault.{Reported, CountsReport};
 
+use crate::range_filter::RangeFilter;
+use crate::records::write_range_record;
 use crate::report_fault::ReportFault;
+use crate::report_format::ReportFormat;
 use s10_book::Book;
 use s10_history::{Range, Usage};
 use s10_lines::{
@@ -16,7 +21,8 @@ use s10_lines::{
 };
 use std::io::Write;
 
-/// Writes a header and a line for each range, in order of their numbers, with its usage.
+/// Writes a heading and a line or a record for each range that the filter admits, in order of their
+/// numbers, with its usage.
 ///
 /// The usage is how many of its serials were ever issued, are voided, and are free. Free is counted
 /// on the later of `day` and the book's day. The line of a closed range ends with `closed`. All
@@ -29,6 +35,8 @@ use std::io::Write;
 /// - `Write` if the writer fails; part of a line may be written.
 pub fn write_ranges<B: Book, W: Write>(
     book: &mut B,
+    filter: &RangeFilter,
+    format: ReportFormat,
     day: u32,
     out: &mut W,
 ) -> Result<(), ReportFault>
@@ -36,22 +44,74 @@ pub fn write_ranges<B: Book, W: Write>(
     ensures unchanged { Unchanged B.history B.committed B.terms B.honest B.clean B.may_find book.old
         book.new }
     ensures written { B.honest book.new → Reported (W.contents out.old) (W.contents out.new)
-        (ranges_report (B.history book.old) day (B.terms book.old).interval) result }
+        (ranges_report filter.now format (B.history book.old) day (B.terms book.old).interval)
+        result }
 {
-    write_text(
-        b"range customer service country first last used voided free\n",
-        out,
-    )?;
+    write_text(heading(format), out)?;
     for done in 0..book.len() {
         let range = match book.range(done + 1)? {
             None => return Ok(()),
             Some(range) => range,
         };
-        let usage = book.usage(&range, day)?;
-        let closed = book.closed(range.num)?;
-        write_range(&range, &usage, closed, out)?;
+        write_if_admitted(book, filter, format, &range, day, out)?;
     }
     Ok(())
+}
+
+fn heading(format: ReportFormat) -> &'static [u8]
+    ensures { result.now ≡ ranges_heading format }
+{
+    match format {
+        ReportFormat::Lines => b"range customer service country first last used voided free\n",
+        ReportFormat::Csv => {
+            b"range,customer,service,country,first,last,used,voided,free,closed,day,date\r\n"
+        }
+    }
+}
+
+// Writes the line or the record of a range of the book, if the filter admits it.
+fn write_if_admitted<B: Book, W: Write>(
+    book: &mut B,
+    filter: &RangeFilter,
+    format: ReportFormat,
+    range: &Range,
+    day: u32,
+    out: &mut W,
+) -> Result<(), ReportFault>
+    requires { B.honest book.old → Contains (ranges_of (B.history book.old)) range.now }
+    ensures faults { CountsReport result (B.faults book.old) (B.faults book.new) }
+    ensures unchanged { Unchanged B.history B.committed B.terms B.honest B.clean B.may_find book.old
+        book.new }
+    ensures written { B.honest book.new → Reported (W.contents out.old) (W.contents out.new)
+        (range_lines filter.now format (B.history book.old) day (B.terms book.old).interval
+        (range.now ∷ [])) result }
+{
+    if !filter.admits(range) {
+        return Ok(());
+    }
+    let usage = book.usage(range, day)?;
+    let closed = book.closed(range.num)?;
+    let counted = book.day().max(day);
+    write_as(format, range, &usage, closed, counted, out)?;
+    Ok(())
+}
+
+// Writes a range as a line or as a record. Free was counted on this day.
+fn write_as<W: Write>(
+    format: ReportFormat,
+    range: &Range,
+    usage: &Usage,
+    closed: bool,
+    day: u32,
+    out: &mut W,
+) -> Result<(), WriteFault>
+    ensures { OnOk result (Appends (W.contents out.old) (W.contents out.new)
+        (range_text format range.now usage.now closed day)) }
+{
+    match format {
+        ReportFormat::Lines => write_range(range, usage, closed, out),
+        ReportFormat::Csv => write_range_record(range, usage, closed, day, out),
+    }
 }
 
 fn write_range<W: Write>(

@@ -2,7 +2,8 @@ use Rattle.std.proofs.Common.{[], ◌∷◌, ◌++◌, List, ℕ}
 use Rattle.std.specs.Prelude.{decimal}
 use Rattle.s10_core.specs.Id.{spelling_of}
 use Rattle.s10_lines.proofs.Writing.{words_then, line_follows}
-use Rattle.s10_reports.specs.Reports.{issue_line, state_of}
+use Rattle.s10_reports.specs.Reports.{issue_line}
+use Rattle.s10_reports.specs.States.{state_of}
 use Rattle.s10_reports.proofs.issues_report.write_issue.Goals as goal
 
 pub returns : goal.returns

@@ -24,12 +24,12 @@ returns-in_err-write_call-clause-written g c = λ h.
     same in
     let Cut : List Entry → Type 0 = λ l. Reported {T = ⊤} (g.W.Write.contents c.loop-done.out)
     (g.W.Write.contents c.write_call.new.out)
-    (issue_lines l (issues_at (c.loop-done.done + 1) e)) (Err c.in_err-write_call.field-0.0) in
+    (issue_lines c.args.report.now l (issues_at (c.loop-done.done + 1) e)) (Err c.in_err-write_call.field-0.0) in
     let cut : Cut first = subst Cut (c.entry.ensures.unchanged.same_history h1 ∙ same)
     (c.in_err-write_call.ensures.written h) in
-    report_cut _ _ _ (issues_report first) _ _ _ c.in_err-write_call.field-0.0
+    report_cut _ _ _ (issues_report c.args.report.now first) _ _ _ c.in_err-write_call.field-0.0
     c.from_residual-in_err-write_call.result c.from_residual-in_err-write_call.ensures.1
-    (call_lines first c.loop-done.done c.in_ok-entry.field-0 e is c.in-Some.is)
+    (call_lines c.args.report.now first c.loop-done.done c.in_ok-entry.field-0 e is c.in-Some.is)
     (c.loop-done.invariant.written h0) cut
 
 pub loop-done-preserved : goal.loop-done-preserved
@@ -50,11 +50,11 @@ loop-done-preserved g c = record {
       same in
       let lines = subst (λ (l : List Entry). Appends (g.W.Write.contents c.loop-done.out)
       (g.W.Write.contents c.write_call.new.out)
-      (joined (issue_lines l (issues_at (c.loop-done.done + 1) e))))
+      (joined (issue_lines c.args.report.now l (issues_at (c.loop-done.done + 1) e))))
       (c.entry.ensures.unchanged.same_history h1 ∙ same) (c.in_ok-write_call.ensures.written h) in
-      call_written _ _ _ (take (issued_by first c.loop-done.done + 1) (issues_report first))
-      (issue_lines first (issues_at (c.loop-done.done + 1) e)) _
-      (call_lines first c.loop-done.done c.in_ok-entry.field-0 e is c.in-Some.is)
+      call_written _ _ _ (take (issued_by c.args.report.now first c.loop-done.done + 1) (issues_report c.args.report.now first))
+      (issue_lines c.args.report.now first (issues_at (c.loop-done.done + 1) e)) _
+      (call_lines c.args.report.now first c.loop-done.done c.in_ok-entry.field-0 e is c.in-Some.is)
       (c.loop-done.invariant.written h0) lines;
 }
 
@@ -62,8 +62,8 @@ pub returns-clause-written : goal.returns-clause-written
 returns-clause-written g c = λ h.
     let h0 = c.loop-done.invariant.unchanged.was_honest h in
     let first = g.B.Book.history c.args.book.now in
-    report_whole _ _ (issues_report first) (issued_by first c.loop-done.done + 1)
-    (issues_all first c.loop-done.done (omega (
+    report_whole _ _ (issues_report c.args.report.now first) (issued_by c.args.report.now first c.loop-done.done + 1)
+    (issues_all c.args.report.now first c.loop-done.done (omega (
       arith,
       c.len-done-end.ensures.answer h0,
       c.loop-done-test.false,

@@ -5,7 +5,7 @@ use Rattle.s10_reports.specs.Reports.{joined, issues_report}
 use Rattle.s10_reports.proofs.Reporting.{issued_by}
 use Rattle.s10_reports.proofs.issues_report.write_issues.Given as goal
 
--- The header and a line for each issuance of the calls so far were written.
+-- The heading and the lines of the issuances of the calls so far were written.
 abbrev pub invariant-loop-done : goal.invariant-loop-done
 invariant-loop-done g l =
     record {
@@ -15,6 +15,6 @@ invariant-loop-done g l =
           l.fn.book l.book;
       written : g.B.Book.honest l.book → Appends (g.W.Write.contents l.fn.out)
           (g.W.Write.contents l.out)
-          (joined (take (issued_by (g.B.Book.history l.fn.book) l.done + 1)
-          (issues_report (g.B.Book.history l.fn.book))));
+          (joined (take (issued_by l.report (g.B.Book.history l.fn.book) l.done + 1)
+          (issues_report l.report (g.B.Book.history l.fn.book))));
     }

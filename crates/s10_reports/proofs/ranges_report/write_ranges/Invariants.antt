@@ -2,9 +2,10 @@ use Rattle.std.proofs.Common.{◌≡◌, ◌+◌, take}
 use Rattle.std.specs.Io.KnownBytes.{Appends}
 use Rattle.s10_book.specs.Book.{Unchanged}
 use Rattle.s10_reports.specs.Reports.{joined, ranges_report}
+use Rattle.s10_reports.proofs.Reporting.{ranges_by}
 use Rattle.s10_reports.proofs.ranges_report.write_ranges.Given as goal
 
--- The header and a line for each range so far were written.
+-- The heading and the lines of the ranges so far were written.
 abbrev pub invariant-loop-done : goal.invariant-loop-done
 invariant-loop-done g l =
     record {
@@ -14,6 +15,8 @@ invariant-loop-done g l =
           l.fn.book l.book;
       written : g.B.Book.honest l.book → Appends (g.W.Write.contents l.fn.out)
           (g.W.Write.contents l.out)
-          (joined (take (l.done + 1) (ranges_report (g.B.Book.history l.fn.book) l.day
+          (joined (take (ranges_by l.filter l.format (g.B.Book.history l.fn.book) l.day
+          (g.B.Book.terms l.fn.book).interval l.done + 1)
+          (ranges_report l.filter l.format (g.B.Book.history l.fn.book) l.day
           (g.B.Book.terms l.fn.book).interval)));
     }
