@@ -8,6 +8,7 @@ use Rattle.s10_book.specs.declared.faults.Faults.{Faults}
 use Rattle.s10_book.specs.BookFault.{CountsBookFault}
 use Rattle.s10_history.specs.Settings.{Terms}
 use Rattle.s10_rows.specs.Tables.{head_row}
+use Rattle.s10_reports.specs.declared.issues_report.IssuesReport.{IssuesReport}
 use Rattle.s10_reports.specs.Reports.{joined, ranges_report, issues_report}
 use Rattle.s10_reports.specs.Info.{info_report}
 use Rattle.s10_jobs.specs.declared.report_kind.ReportKind.{ReportKind}
@@ -23,14 +24,18 @@ use Rattle.s10_jobs.specs.Words.{book_fault_words}
 
 -- The report of a kind on a day. That of the issues has no day.
 abbrev pub report_on : ReportKind → ℕ → Report
-report_on OfRanges day = Ranges day
-report_on OfIssues day = Issues
+report_on (OfRanges filter format) day = Ranges filter format day
+report_on (OfIssues asked) day = Issues asked
 report_on OfLedger day = Info day
+
+-- The report is one of issues, which needs no day.
+abbrev pub IsOfIssues : ReportKind → Type 0
+IsOfIssues kind = (asked : IssuesReport) × (kind ≡ OfIssues asked)
 
 -- The lines of a report of a history.
 abbrev pub report_lines : Report → List Entry → Terms → List (List ℕ)
-report_lines (Ranges day) h t = ranges_report h day t.interval
-report_lines Issues h t = issues_report h
+report_lines (Ranges filter format day) h t = ranges_report filter format h day t.interval
+report_lines (Issues asked) h t = issues_report asked h
 report_lines (Info day) h t = info_report (nat_abs (head_row t).schema) h day t
 
 -- The first n lines of the report, then the fault of the book that ended it. The book counted that

@@ -1,8 +1,8 @@
 //! Writes a report, and a last line if it ended early.
 
 ghost use Rattle.s10_book.specs.Book.{Unchanged};
-ghost use Rattle.s10_jobs.specs.Reporting.{report_lines, report_on, PrintsReport};
-ghost use Rattle.std.specs.Prelude.{◌≡◌, IfOk};
+ghost use Rattle.s10_jobs.specs.Reporting.{report_lines, PrintsReport};
+ghost use Rattle.std.specs.Prelude.{IfOk};
 
 use crate::answer_line::write_faulted;
 use crate::days::{Days, next_day};
@@ -10,7 +10,9 @@ use crate::job_status::JobStatus;
 use crate::report_kind::ReportKind;
 use s10_book::Book;
 use s10_lines::{WriteFault, write_text};
-use s10_reports::{ReportFault, write_info, write_issues, write_ranges};
+use s10_reports::{
+    IssuesReport, RangeFilter, ReportFault, ReportFormat, write_info, write_issues, write_ranges,
+};
 use std::io::Write;
 
 /// The schema number of the ledgers of this build. No ledger with another one opens.
@@ -19,18 +21,25 @@ const SCHEMA: u32 = 1;
 /// A report of a ledger.
 #[derive(Clone, Copy, Debug, PartialEq, Eq)]
 pub enum Report {
-    /// The ranges, with the serials that are free on a day.
-    Ranges { day: u32 },
+    /// The ranges that the filter admits, with the serials that are free on a day.
+    Ranges {
+        filter: RangeFilter,
+        format: ReportFormat,
+        day: u32,
+    },
     /// The identifiers that were issued.
-    Issues,
+    Issues(IssuesReport),
     /// The ledger as a whole, with the serials that may be drawn on a day.
-    Info { day: u32 },
+    Info {
+        day: u32,
+    },
 }
 
 impl Report {
-    ghost use Rattle.std.specs.Prelude.{◌≡◌, ◌≢◌, ℕ, Option, Some, option_map};
+    ghost use Rattle.std.specs.Prelude.{◌≡◌, ℕ, Option, Some, option_map};
+    ghost use Rattle.s10_reports.specs.declared.issues_report.IssuesReport.{IssuesReport};
     ghost use Rattle.s10_jobs.specs.Days.{IsTaken};
-    ghost use Rattle.s10_jobs.specs.Reporting.{report_on};
+    ghost use Rattle.s10_jobs.specs.Reporting.{IsOfIssues, report_on};
     ghost use Rattle.s10_jobs.specs.declared.report_kind.ReportKind.{ReportKind};
 
     /// Returns the report of this kind, on a day. That of the issues needs none.
@@ -38,28 +47,24 @@ impl Report {
     /// The source of days is asked only if a day is needed and none is given. Returns `None` if it
     /// gives no day.
     pub fn new<D: Days>(days: &mut D, kind: ReportKind, day: Option<u32>) -> Option<Report>
-        ensures issues { kind ≡ ReportKind.Issues → (result ≡ Some Report.Issues)
-            × (days.new ≡ days.old) }
-        ensures dated { kind ≢ ReportKind.Issues → (taken : Option ℕ)
+        ensures issues { (asked : IssuesReport) → kind ≡ ReportKind.Issues asked
+            → (result ≡ Some (Report.Issues asked)) × (days.new ≡ days.old) }
+        ensures dated { ¬ IsOfIssues kind → (taken : Option ℕ)
             × IsTaken D.gives day taken days.old days.new
             × (result ≡ option_map (report_on kind) taken) }
     {
-        if let ReportKind::Issues = kind {
-            return Some(Report::Issues);
+        match kind {
+            ReportKind::Issues(asked) => Some(Report::Issues(asked)),
+            ReportKind::Ranges { filter, format } => Some(Report::Ranges {
+                filter,
+                format,
+                day: next_day(days, day)?,
+            }),
+            ReportKind::Info => {
+                let day = next_day(days, day)?;
+                Some(Report::Info { day })
+            }
         }
-        let day = next_day(days, day)?;
-        Some(report_on(kind, day))
-    }
-}
-
-// Returns the report of this kind on a day.
-fn report_on(kind: ReportKind, day: u32) -> Report
-    ensures { result ≡ report_on kind day }
-{
-    match kind {
-        ReportKind::Ranges => Report::Ranges { day },
-        ReportKind::Issues => Report::Issues,
-        ReportKind::Info => Report::Info { day },
     }
 }
 
@@ -84,8 +89,12 @@ pub fn write_report<B: Book, W: Write>(
         (report_lines report (B.history book.old) (B.terms book.old))) }
 {
     let written = match report {
-        Report::Ranges { day } => write_ranges(book, day, out),
-        Report::Issues => write_issues(book, out),
+        Report::Ranges {
+            filter,
+            format,
+            day,
+        } => write_ranges(book, &filter, format, day, out),
+        Report::Issues(asked) => write_issues(book, &asked, out),
         Report::Info { day } => write_info(book, SCHEMA, day, out),
     };
     match written {
