@@ -611,6 +611,17 @@ impl<S: Alter> Book for SqlBook<S> {
         Ok(next)
     }
 
+    fn next_free_range(
+        &mut self,
+        held: &HolderKey,
+        after: u32,
+        day: u32,
+    ) -> Result<Option<Range>, BookFault> {
+        self.ask_again()?;
+        let interval = self.settings.interval();
+        Ok(self.index.next_free_range(held, after, day, interval))
+    }
+
     fn covering(&mut self, span: &SerialSpan) -> Result<Option<Range>, BookFault> {
         self.ask_again()?;
         let found = self
