@@ -17,10 +17,10 @@ use Rattle.s10_schema.specs.Schema.{IsLedgerSchema, IsClosedSchema}
 use Rattle.s10_statements.specs.ConnectionState.{IsQuiescent, StaysUnclean}
 use Rattle.s10_statements.specs.Statements.{LeavesTables}
 use Rattle.s10_book.specs.Book.{FindsAfter}
-use Rattle.s10_book.proofs.Calls.{grows_same}
+use Rattle.s10_book.proofs.Calls.{grows_none, grows_same}
 use Rattle.s10_ledger.specs.Ledger.{Ledger, IsLedger, IsHonest, HoldsCalls, IsFoundInTrees}
 use Rattle.s10_ledger.specs.Ledger.{LeavesUnchanged, MayFindAlso, LeavesCommitted, history_in}
-use Rattle.s10_ledger.specs.Ledger.{history_of, IsOverCleanDisk, MayFind}
+use Rattle.s10_ledger.specs.Ledger.{history_of, IsOverCleanDisk, MayFind, CommitsSomeOf}
 use Rattle.s10_ledger.specs.Found.{one_found}
 use Rattle.s10_statements.proofs.CrashLemmas.{either}
 use Rattle.s10_statements.proofs.Apart.{is_ledger-prop, is_closed-prop}
@@ -144,3 +144,39 @@ follows_still g old mid e unchanged may honest = rw (
   unchanged.same_history honest,
   unchanged.same_terms honest,
 ) (may (unchanged.was_honest honest))
+
+-- The fault counts have no part in whether a ledger is honest.
+pub honest_counted : {S : Type 0} (g : Ghosts S) (l : Ledger S) (faults : Faults)
+    → IsHonest g (record l { faults = faults }) → IsHonest g l
+honest_counted g l faults h = record {
+  clean = h.clean;
+  is_open = h.is_open;
+  committed = h.committed;
+  ledger = h.ledger;
+  legal = h.legal;
+}
+
+-- A ledger with other fault counts is unchanged.
+pub unchanged_counted : {S : Type 0} (g : Ghosts S) (l : Ledger S) (faults : Faults)
+    → LeavesUnchanged g l (record l { faults = faults })
+unchanged_counted g l faults = record {
+  was_honest = honest_counted g l faults;
+  same_history = λ h. refl;
+  same_terms = λ h. refl;
+  stays_committed = λ h. grows_none (history_in (state g l.conn).now);
+  stop = record {
+    was_clean = λ clean. clean;
+    finds = λ clean found may. inl may;
+  };
+}
+
+-- The fault counts have no part in what a call commits.
+pub commits_counted : {S : Type 0} (g : Ghosts S) (old new : Ledger S) (faults : Faults)
+    → CommitsSomeOf g old new → CommitsSomeOf g old (record new { faults = faults })
+commits_counted g old new faults it = record {
+  was_honest = λ h. it.was_honest (honest_counted g new faults h);
+  same_history = λ h. it.same_history (honest_counted g new faults h);
+  same_terms = λ h. it.same_terms (honest_counted g new faults h);
+  stays_committed = λ h. it.stays_committed (honest_counted g new faults h);
+  stop = record { was_clean = it.stop.was_clean; finds = it.stop.finds };
+}

@@ -5,6 +5,7 @@ pub mod BookLemmas
 pub mod AskLemmas
 pub mod NewLedger
 pub mod PendingLemmas
+pub mod PortionLemmas
 pub mod CommittedLemmas
 pub mod WholeLemmas
 pub mod ReadingLemmas

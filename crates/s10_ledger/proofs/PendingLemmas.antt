@@ -41,7 +41,7 @@ use Rattle.s10_ledger.specs.Ledger.{Ledger, IsLedger, Holds, IsHonest, HoldsCall
 use Rattle.s10_ledger.specs.Ledger.{history_of, committed_of}
 use Rattle.s10_ledger.specs.Found.{ledger_holds}
 use Rattle.s10_ledger.specs.Pending.{calls_of, committed_among, HoldsPending, IsFollowed, IsSound}
-use Rattle.s10_ledger.specs.Pending.{IsWriteOf, IsWrittenWith}
+use Rattle.s10_ledger.specs.Pending.{IsWriteOf, IsWrittenWith, AreWrittenAfter}
 use Rattle.s10_ledger.proofs.HistoryLemmas.{history_is}
 use Rattle.s10_ledger.proofs.BookLemmas.{same_tables}
 
@@ -57,16 +57,38 @@ committed_push ws w es e =
     omega (arith, length-append es (e ∷ []), length-append ws (w ∷ [])) in
     rw n (take-append-le (length es - length ws) es (e ∷ []) (omega arith))
 
--- One more call after those that are written.
-pub written_push : (ws : List CallWrite) (w : CallWrite) (a b c : Tables) → AreWritten ws a b
-    → Writes w b c → AreWritten (ws ++ w ∷ []) a c
-unfolding AreWritten
-written_push [] w a b c is it = (c, subst (λ (d : Tables). Writes w d c) is it, refl)
-written_push (v ∷ vs) w a b c is it = (is.0, is.1, written_push vs w is.0 b c is.2 it)
+-- A write makes the tables of the history with its call.
+abbrev IsWrittenAfter : Terms → CallWrite → List Entry → Type 0
+IsWrittenAfter t w h = Writes w (tables_of h t) (tables_of (h ++ w.entry ∷ []) t)
 
-none_written : (a b : Tables) → b ≡ a → AreWritten [] a b
-unfolding AreWritten
-none_written a b is = is
+-- One more call after those that are written.
+pub written_push : (h : List Entry) (t : Terms) (ws : List CallWrite) (w : CallWrite)
+    → AreWrittenAfter h t ws → IsWrittenAfter t w (h ++ calls_of ws)
+    → AreWrittenAfter h t (ws ++ w ∷ [])
+unfolding AreWrittenAfter
+written_push h t [] w are it = (subst (IsWrittenAfter t w) (append-nil h) it, tt)
+written_push h t (v ∷ vs) w are it = (
+  are.0,
+  written_push (h ++ v.entry ∷ []) t vs w are.1
+      (subst (IsWrittenAfter t w) (sym (append_assoc h (v.entry ∷ []) (calls_of vs))) it),
+)
+
+none_written : (h : List Entry) (t : Terms) → AreWrittenAfter h t []
+unfolding AreWrittenAfter
+none_written h t = tt
+
+-- The writes make the tables of the whole history.
+all_written : (h : List Entry) (t : Terms) (ws : List CallWrite) → AreWrittenAfter h t ws
+    → AreWritten ws (tables_of h t) (tables_of (h ++ calls_of ws) t)
+unfolding AreWritten AreWrittenAfter
+all_written h t [] are = ap (λ (l : List Entry). tables_of l t) (append-nil h)
+all_written h t (w ∷ ws) are = (
+  tables_of (h ++ w.entry ∷ []) t,
+  are.0,
+  subst (λ (l : List Entry). AreWritten ws (tables_of (h ++ w.entry ∷ []) t) (tables_of l t))
+      (append_assoc h (w.entry ∷ []) (calls_of ws))
+      (all_written (h ++ w.entry ∷ []) t ws are.1),
+)
 
 -- A history with nothing pending after it.
 pub nothing_pending : (db : Database) (t : Terms) (index : CallIndex)
@@ -76,8 +98,7 @@ nothing_pending db t index indexed legal = record {
   legal = subst (λ (h : List Entry). IsLegal h t) (sym (append-nil (history_in db))) legal;
   held = ∣ record {
     calls = All-nil IsCall;
-    written = none_written _ _ (ap (λ (h : List Entry). tables_of h t)
-        (append-nil (history_in db)));
+    written = none_written (history_in db) t;
   } ∣₁;
 }
 
@@ -94,7 +115,7 @@ module _ (old new : Database) (t : Terms) (len day : ℕ) (ws : List CallWrite)
   stands : Holds old t len day → HoldsPending old t ws
       → StandsFor new (history_in old ++ calls_of ws) t
   stands h p = made (tables_of (history_in old) t) (tables_of (history_in old ++ calls_of ws) t)
-      p.written h.tables
+      (all_written (history_in old) t ws p.written) h.tables
 
   pub written_history : history_in new ≡ history_in old ++ calls_of ws
   written_history = ∥∥₁_elim was.held (Coded-set (coded_list entry.the_row.coded) _ _)
@@ -347,9 +368,9 @@ module _ (db : Database) (t : Terms) (len day : ℕ) (index : CallIndex) (ws : L
       record {
         calls = subst (All IsCall) (sym longer_calls)
             (All-push IsCall (calls_of ws) e p.calls it.0);
-        written = subst (λ (h : List Entry). AreWritten (ws ++ w ∷ [])
-            (tables_of (history_in db) t) (tables_of h t)) (sym longer)
-            (written_push ws w _ _ _ p.written it.1);
+        written = written_push (history_in db) t ws w p.written
+            (subst (λ (d : Entry). Writes w (tables_of (history_in db ++ calls_of ws) t)
+            (tables_of ((history_in db ++ calls_of ws) ++ d ∷ []) t)) (sym call) it.1);
       }))
 
   pub followed_push : (after : CallIndex) → IsWriteOf index e w

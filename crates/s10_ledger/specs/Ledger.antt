@@ -13,6 +13,7 @@ use Rattle.s10_book.specs.declared.faults.Faults.{Faults}
 use Rattle.s10_history.specs.Settings.{Terms}
 use Rattle.s10_history.specs.History.{day_of}
 use Rattle.s10_book.specs.Book.{FindsAfter, Unchanged}
+use Rattle.s10_book.specs.GroupCommit.{CommitsSome}
 use Rattle.s10_book.specs.Rules.{IsLegal}
 use Rattle.s10_index.specs.declared.call_index.CallIndex.{CallIndex}
 use Rattle.s10_index.specs.CallIndex.{Indexes}
@@ -150,6 +151,11 @@ MayFind g l found = (db : Trees) × (state g l.conn).may_leave db × IsFoundInTr
 abbrev pub LeavesUnchanged : {S : Type 0} → Ghosts S → Ledger S → Ledger S → Type 0
 LeavesUnchanged {S} g old new = Unchanged (history_of g) (committed_of g)
     (λ (l : Ledger S). l.terms) (IsHonest g) (IsOverCleanDisk g) (MayFind g) old new
+
+-- A call commits some of the pending calls: all, the first of them, or none.
+abbrev pub CommitsSomeOf : {S : Type 0} → Ghosts S → Ledger S → Ledger S → Type 0
+CommitsSomeOf {S} g old new = CommitsSome (history_of g) (committed_of g) (λ (l : Ledger S). l.terms)
+    (IsHonest g) (IsOverCleanDisk g) (MayFind g) old new
 
 -- After a stop, an opening may find what it could find before the call or, if the ledger was
 -- honest, these calls.

@@ -37,12 +37,18 @@ abbrev pub IsWriteOf : CallIndex → Entry → CallWrite → Type 0
 IsWriteOf index e w = (h : List Entry) (t : Terms) → IsLegal h t → MayFollow h t e → All IsCall h
     → Indexes index h → IsCall e × Writes w (tables_of h t) (tables_of (h ++ e ∷ []) t)
 
+-- Each of the writes makes the tables of the history with its call out of those of the history
+-- before it.
+unfoldable pub AreWrittenAfter : List Entry → Terms → List CallWrite → Type 0
+AreWrittenAfter h t [] = ⊤
+AreWrittenAfter h t (w ∷ ws) = Writes w (tables_of h t) (tables_of (h ++ w.entry ∷ []) t)
+    × AreWrittenAfter (h ++ w.entry ∷ []) t ws
+
 -- The writes of the pending calls make the tables of the whole history out of those of the
--- committed one.
+-- committed one, one call after another.
 pub record HoldsPending (db : Database) (t : Terms) (ws : List CallWrite) : Type 0 where
   pub calls : All IsCall (calls_of ws)
-  pub written : AreWritten ws (tables_of (history_in db) t)
-      (tables_of (history_in db ++ calls_of ws) t)
+  pub written : AreWrittenAfter (history_in db) t ws
 
 -- The new database has the tables of the old one with the pending calls and then this call written.
 abbrev pub IsWrittenWith : Database → Database → CallIndex → List CallWrite → Entry → Type 0

@@ -1,7 +1,8 @@
 //! The pending calls: appends a call to them, and commits them, with one more call or without.
 
 ghost use Rattle.std.specs.Prelude.{◌≡◌, ◌≢◌, ◌⊎◌, ◌<◌, ◌≤◌, ◌++◌, ◌∷◌, [], List, length, Err, None};
-ghost use Rattle.std.specs.Prelude.{IsTrue, IfOk, IfErr, OnOk, OnErr};
+ghost use Rattle.std.specs.Prelude.{Some, IfSome, ◌/◌};
+ghost use Rattle.std.specs.Prelude.{IsTrue, IfOk, IfErr, OnOk, OnErr, take, drop};
 ghost use Rattle.std.specs.List.{list_any};
 ghost use Rattle.sqlite_trees.specs.Tree.{Trees};
 ghost use Rattle.sqlite_trees.specs.View.{doubt};
@@ -66,14 +67,74 @@ pub(crate) fn commit_calls<S: Alter>(
     ensures works { OnOk result (last_failure.new ≡ None) }
     ensures reason { IfErr result (IsReasonFor last_failure.new) }
 {
-    match commit_rows(conn, pending) {
+    let all = pending.len();
+    commit_first(conn, pending, last_failure, all)
+}
+
+// Commits the first `count` pending calls in one transaction, and then they are not pending, or none
+// of them. The last failure is then the reason.
+pub(crate) fn commit_first<S: Alter>(
+    conn: &mut Connection<S>,
+    pending: &mut Vec<CallWrite>,
+    last_failure: &mut Option<Error>,
+    count: usize,
+) -> Result<(), BookFault>
+    requires settled { IsQuiescent S.Store conn.old }
+    requires within { count ≤ length pending.old.items }
+    ensures settled { IsQuiescent S.Store conn.new }
+    ensures opened { HasCleanDisk (state S.Store conn.new)
+        → OnOk result (IsTrue (state S.Store conn.new).is_open) }
+    ensures fault { result ≢ Err Full }
+    ensures clean { doubt (state S.Store conn.old).is_clean
+        ≤ doubt (state S.Store conn.new).is_clean }
+    ensures was_open { HasCleanDisk (state S.Store conn.new)
+        → IsTrue (state S.Store conn.new).is_open → IsTrue (state S.Store conn.old).is_open }
+    ensures rest { OnOk result (pending.new.items ≡ drop count pending.old.items) }
+    ensures left { OnErr result (pending.new.items ≡ pending.old.items) }
+    ensures ok { HasCleanDisk (state S.Store conn.new) → OnOk result ((before after : Tables)
+        → AreWritten (take count pending.old.items) before after
+        → HasTables (state S.Store conn.old).now before → HasTables (state S.Store conn.new).now
+        after) }
+    ensures err { HasCleanDisk (state S.Store conn.new) → IsTrue (state S.Store conn.new).is_open
+        → OnErr result ((state S.Store conn.new).now ≡ (state S.Store conn.old).now) }
+    ensures crash { HasCleanDisk (state S.Store conn.new) → (db : Trees)
+        → (state S.Store conn.new).may_leave db
+        → (state S.Store conn.old).may_leave db
+        ⊎ ((before after : Tables) → AreWritten (take count pending.old.items) before after
+        → HasTables (state S.Store conn.old).now before
+        → HasTables (record (state S.Store conn.old).now { trees = db }) after) }
+    ensures works { OnOk result (last_failure.new ≡ None) }
+    ensures reason { IfErr result (IsReasonFor last_failure.new) }
+{
+    match commit_rows(conn, &pending[..count]) {
         Ok(()) => {
-            pending.clear();
+            remove_first(pending, count);
             *last_failure = None;
             Ok(())
         }
         Err(error) => Err(keep_failure(last_failure, error)),
     }
+}
+
+// Removes the first `count` pending calls. Does not allocate, since it follows a commit.
+fn remove_first(pending: &mut Vec<CallWrite>, count: usize)
+    requires { count ≤ length pending.old.items }
+    ensures { pending.new.items ≡ drop count pending.old.items }
+{
+    drop(pending.drain(..count));
+}
+
+// Returns how many calls a commit tries after a failure with `tried` calls: half as many, or `None`
+// after a failure with one.
+pub(crate) fn halved(tried: usize) -> Option<usize>
+    ensures half { 2 ≤ tried → result ≡ Some (tried / 2) }
+    ensures one { tried < 2 → result ≡ None }
+    ensures fewer { IfSome result (λ n. (1 ≤ n) × (n < tried)) }
+{
+    if tried < 2 {
+        return None;
+    }
+    Some(tried / 2)
 }
 
 // Prepares the index, whose calls are unchanged, for the call, and returns what the call writes after

@@ -9,7 +9,7 @@ ghost use Rattle.s10_ledger.specs.Ledger.{history_in, IsHonest};
 use crate::closed_book::ClosedBook;
 use crate::faults::opening_fault;
 use crate::lookups::{ask, usage_in};
-use crate::pending::{append_pending, commit_calls, is_pending, keep_call};
+use crate::pending::{append_pending, commit_calls, commit_first, halved, is_pending, keep_call};
 use crate::refused::Refused;
 use s10_book::{Book, BookFault, Faults, GroupCommit, LastFailure, MAX_BATCH};
 use s10_core::Id;
@@ -45,6 +45,8 @@ pub struct SqlBook<S: Alter> {
     answered: bool,
     // Why a statement failed last, until a commit succeeds.
     last_failure: Option<Error>,
+    // Whether an append could not commit the pending calls since the last `commit`.
+    has_refused: bool,
 }
 
 impl<S: Alter> Model for SqlBook<S> {
@@ -179,6 +181,7 @@ impl<S: Alter> SqlBook<S> {
             pending: Vec::new(alloc),
             answered: true,
             last_failure: None,
+            has_refused: false,
         }
     }
 
@@ -255,6 +258,7 @@ impl<S: Alter> SqlBook<S> {
             pending: _,
             answered: _,
             last_failure: _,
+            has_refused: _,
         } = self;
         conn
     }
@@ -320,6 +324,7 @@ fn counted<T>(faults: &mut Faults, answer: Result<T, BookFault>) -> Result<T, Bo
 
 impl<S: Alter> SqlBook<S> {
     ghost use Rattle.std.specs.Prelude.{◌++◌, ◌∷◌, ◌<◌, length, IfOk, IfErr, IsTrue, OnErr, OnOk};
+    ghost use Rattle.std.specs.Prelude.{drop, min};
     ghost use Rattle.std.specs.Prelude.{Contains};
     ghost use Rattle.s10_history.specs.History.{ranges_of};
     ghost use Rattle.s10_history.specs.Usage.{usage_of};
@@ -327,7 +332,7 @@ impl<S: Alter> SqlBook<S> {
     ghost use Rattle.s10_book.specs.Book.{Grows};
     ghost use Rattle.s10_ledger.specs.Ledger.{history_of, committed_of, IsOverCleanDisk};
     ghost use Rattle.s10_ledger.specs.Ledger.{LeavesUnchanged, IsOpenIfClean, MayFindAlso};
-    ghost use Rattle.s10_ledger.specs.Ledger.{HasFailed};
+    ghost use Rattle.s10_ledger.specs.Ledger.{HasFailed, CommitsSomeOf};
 
     // Asks the connection if it did not answer the last statement, so that no statement runs and no
     // look-up answers over a closed connection.
@@ -408,6 +413,73 @@ impl<S: Alter> SqlBook<S> {
         Ok(())
     }
 
+    // Commits the first pending calls, at most `most`, in one transaction. Counts no fault.
+    fn write_first(&mut self, most: usize) -> Result<(), BookFault>
+        requires { IsOpenIfClean S.Store self.old.conn }
+        ensures same_faults { self.new.faults ≡ self.old.faults }
+        ensures same_terms { self.new.terms ≡ self.old.terms }
+        ensures commits_some { CommitsSomeOf S.Store self.old self.new }
+        ensures opened { IsOverCleanDisk S.Store self.new
+            → OnOk result (IsHonest S.Store self.new) }
+        ensures rest { OnOk result
+            (self.new.pending ≡ drop (min most (length self.old.pending)) self.old.pending) }
+        ensures left { OnErr result (self.new.pending ≡ self.old.pending) }
+        ensures fault { result ≢ Err Full }
+    {
+        let count = most.min(self.pending.len());
+        let written = commit_first(
+            &mut self.conn,
+            &mut self.pending,
+            &mut self.last_failure,
+            count,
+        );
+        let answered = written.is_ok();
+        self.answered = answered;
+        written
+    }
+
+    // Commits the pending calls in portions, each in one transaction. The first portion is all of
+    // them. After a failure half as many are tried, so that what fits is committed.
+    fn commit_in_portions(&mut self) -> Result<(), BookFault>
+        ensures faults { CountsResult result self.old.faults self.new.faults }
+        ensures commits_some { CommitsSomeOf S.Store self.old self.new }
+        ensures opened { IsOverCleanDisk S.Store self.new
+            → OnOk result (IsHonest S.Store self.new) }
+        ensures none_pending { OnOk result (self.new.pending ≡ []) }
+    {
+        self.has_refused = false;
+        self.ask_again()?;
+        let mut most = self.pending.len().max(1);
+        while !self.pending.is_empty() {
+            if let Err(fault) = self.write_first(most) {
+                let Some(fewer) = halved(most) else {
+                    return counted(&mut self.faults, Err(fault));
+                };
+                most = fewer;
+                self.ask_again()?;
+            }
+        }
+        Ok(())
+    }
+
+    // Commits all pending calls. Refuses at once if this failed since the last `commit`, so that a
+    // full disk is not tried again for each call of a batch.
+    fn commit_once(&mut self) -> Result<(), BookFault>
+        ensures faults { CountsResult result self.old.faults self.new.faults }
+        ensures unchanged { LeavesUnchanged S.Store self.old self.new }
+        ensures opened { IsOverCleanDisk S.Store self.new
+            → OnOk result (IsHonest S.Store self.new) }
+        ensures none_pending { OnOk result (self.new.pending ≡ []) }
+    {
+        if self.has_refused {
+            return counted(&mut self.faults, Err(BookFault::Store));
+        }
+        let committed = self.commit_all();
+        let has_refused = committed.is_err();
+        self.has_refused = has_refused;
+        committed
+    }
+
     // Commits if `MAX_BATCH` calls are pending. Otherwise asks the connection, as the reads do.
     fn make_room(&mut self) -> Result<(), BookFault>
         ensures faults { CountsResult result self.old.faults self.new.faults }
@@ -423,7 +495,7 @@ impl<S: Alter> SqlBook<S> {
             → HasFailed S.Store self.old.conn self.new.conn }
     {
         if self.pending.len() >= MAX_BATCH as usize {
-            return self.commit_all();
+            return self.commit_once();
         }
         self.ask_again()
     }
@@ -523,7 +595,8 @@ impl<S: Alter> GroupCommit for SqlBook<S> {
     ghost appends = { Appends S.Store };
 
     /// Appends the call to the pending ones, in the process. If `MAX_BATCH` calls are pending,
-    /// commits these first. If fewer are pending, the database is unchanged.
+    /// commits these first; once that has failed, refuses until the next `commit`. If fewer are
+    /// pending, the database is unchanged.
     fn append(&mut self, entry: Entry) -> Result<(), BookFault> {
         if let Err(fault) = self.make_room() {
             return Err(fault);
@@ -531,10 +604,11 @@ impl<S: Alter> GroupCommit for SqlBook<S> {
         self.append_call(&entry)
     }
 
-    /// Commits all pending calls in one transaction. On an error they stay pending, and a book that
-    /// is honest has committed none of them.
+    /// Commits all pending calls in one transaction. If that fails, tries fewer at a time: half as
+    /// many after each failure, down to one. On an error a book that is honest has committed the
+    /// first of them, or none. The others stay pending.
     fn commit(&mut self) -> Result<(), BookFault> {
-        self.commit_all()
+        self.commit_in_portions()
     }
 
     fn is_committed(&self, customer: u32, number: u32) -> bool {
