@@ -1,5 +1,6 @@
 -- The grammar of the command line: its subcommands, and the words and options of each.
-use Rattle.std.specs.Prelude.{◌≡◌, ℕ, pos, true, false, List, [], ◌∷◌, Some, codes, Result, IfOk}
+use Rattle.std.specs.Prelude.{◌≡◌, ℕ, pos, true, false, List, [], ◌∷◌, ◌++◌, Some, codes}
+use Rattle.std.specs.Prelude.{Result, IfOk}
 use Rattle.std.specs.declared.alloc.AllocError.{AllocError}
 use Rattle.clap.specs.Words.{App, FailsBy, Rule, Shape, Text, app_of, fault_of, found_of}
 use Rattle.clap.specs.Words.{matches_of, new_rule, rows_of, rule_of}
@@ -143,10 +144,15 @@ notes_shape = says (codes "notes") (a_text (codes "file") ∷ a_number (codes "c
 abbrev pub again_shape : Shape
 again_shape = says (codes "again") (a_text (codes "to") ∷ a_text (codes "notes") ∷ tries ∷ [])
 
+-- The options that select what a report has.
+abbrev pub filters : List Rule
+filters = a_count (codes "customer") ∷ a_count (codes "range") ∷ an_option (codes "id")
+    ∷ a_count (codes "from-day") ∷ a_count (codes "to-day") ∷ []
+
 -- The subcommand `report`.
 abbrev pub report_shape : Shape
 report_shape = says (codes "report") (a_text (codes "ledger") ∷ a_flag (codes "snapshot")
-    ∷ a_flag (codes "issues") ∷ day ∷ [])
+    ∷ a_flag (codes "issues") ∷ a_flag (codes "csv") ∷ filters ++ day ∷ [])
 
 -- The subcommand `info`.
 abbrev pub info_shape : Shape

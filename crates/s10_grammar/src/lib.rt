@@ -10,6 +10,7 @@ mod command;
 mod copy_command;
 mod create_command;
 mod draw_command;
+mod filters;
 mod grant_command;
 mod info_command;
 mod loop_command;

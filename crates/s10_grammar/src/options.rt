@@ -69,8 +69,8 @@ pub fn to_option<'a>(alloc: Global) -> Arg<'a>
     )
 }
 
-// Builds an option with a number of 32 bits, which may be left out.
-fn optional_number<'a>(alloc: Global, name: &'a str, help: &'a str) -> Arg<'a>
+/// Builds an option with a number of 32 bits, which may be left out.
+pub fn optional_number<'a>(alloc: Global, name: &'a str, help: &'a str) -> Arg<'a>
     ensures { Follows result (a_count name.entry.now) }
 {
     option(alloc, name, "N", help).value_parser(value_parser!(u32))

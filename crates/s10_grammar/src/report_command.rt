@@ -3,6 +3,7 @@ ghost use Rattle.std.specs.Prelude.{IfOk};
 ghost use Rattle.s10_grammar.specs.Grammar.{ReadsAs, report_shape};
 
 use crate::builders::{flag, named, with};
+use crate::filters::with_filters;
 use crate::options::{day_option, ledger_option, snapshot_option};
 use clap::Command;
 use std::alloc::{AllocError, Global};
@@ -31,6 +32,15 @@ pub fn report_command<'a>(alloc: Global) -> Result<Command<'a>, AllocError>
             "Report the identifiers issued instead of the ranges",
         ),
     );
+    let command = with(
+        command,
+        flag(
+            alloc,
+            "csv",
+            "Write records with commas (RFC 4180), with each day also as a date",
+        ),
+    );
+    let command = with_filters(alloc, command);
     with(
         command,
         day_option(
@@ -45,10 +55,15 @@ Prints a line of headings, and a line for each range in order of their numbers: 
 ever issued, those that are void, and those that are free on the day, or on the ledger's last day if
 that is later; the line of a withdrawn range ends with `closed`. With --issues, a line for each
 identifier issued, in order of arrival: `issued` or `voided` if it was not issued again, else
-`reissued`. The exit status is 0. With status 3, `ledger FAULT` says that the ledger could not be
-opened, `faulted FAULT` or `output` that the report ends early, and `clock` that the clock gives no
-day. With --snapshot, nothing is locked or written, and every reply that was sent before is in the
-report; `ledger busy`, with status 3, says that the ledger changed too much in each of ten readings.
+`reissued`. --customer, --range, --id, --from-day and --to-day may be combined: only the lines that
+agree with all of them are printed. The days are those of issues, so each of the two asks for the
+identifiers issued, as --issues does. With --csv, a record of headings and a record for each range:
+whether it is closed, and the day on which free is counted, as a number and as a date; or a record
+for each identifier issued, with its range. The exit status is 0. With status 3, `ledger FAULT` says
+that the ledger could not be opened, `faulted FAULT` or `output` that the report ends early, and
+`clock` that the clock gives no day. With --snapshot, nothing is locked or written, and every reply
+that was sent before is in the report; `ledger busy`, with status 3, says that the ledger changed
+too much in each of ten readings.
 
 Examples:
   s10 report --ledger post.db --day 20030
@@ -57,4 +72,8 @@ Examples:
 
   s10 report --ledger post.db --snapshot --day 20030
   range customer service country first last used voided free
-  1 7 RA GB 00000000 00000002 3 0 1";
+  1 7 RA GB 00000000 00000002 3 0 1
+
+  s10 report --ledger post.db --issues --customer 7 --from-day 20020 --to-day 20030 --csv
+  arrival,day,date,customer,number,identifier,range,state
+  6,20030,2024-11-03,7,5,RA000000028GB,1,issued";
