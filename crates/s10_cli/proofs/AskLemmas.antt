@@ -1,5 +1,6 @@
 -- Lemmas about the options that a job needs, and about the job that words ask for.
 use Rattle.std.proofs.Common.{◌≡◌, ℕ, sym, ap, List, [], Option, Some, None, Bool, true, false, refl}
+use Rattle.std.specs.Prelude.{codes}
 use Rattle.std.proofs.Common.{subst, nat_eq, slice_index, ◌||◌, inl, inr}
 use Rattle.clap.specs.Words.{Row, Text, fault_of, subcommand_of}
 use Rattle.s10_grammar.specs.Grammar.{grammar}
@@ -7,13 +8,15 @@ use Rattle.s10_jobs.specs.declared.job.Job.{Job}
 use Rattle.s10_jobs.specs.declared.job.Job.TheVariants.{Create, Serve, Ask, AskByNotes, Notes}
 use Rattle.s10_jobs.specs.declared.job.Job.TheVariants.{Again, Report, Audit, Snapshot, Copy, Loop}
 use Rattle.s10_jobs.specs.declared.look.Look.TheVariants.{Report as ReportOf, Audit as AuditOf}
+use Rattle.s10_reports.specs.declared.issue_filter.IssueFilter.{IssueFilter}
+use Rattle.s10_jobs.specs.declared.report_kind.ReportKind.{ReportKind}
 use Rattle.s10_jobs.specs.declared.report_kind.ReportKind.TheVariants.{Ranges, Issues, Info}
 use Rattle.s10_jobs.specs.declared.body_words.BodyWords.{BodyWords}
 use Rattle.s10_jobs.specs.declared.body_words.BodyWords.TheVariants.{Grant, Draw, DrawMany}
 use Rattle.s10_jobs.specs.declared.body_words.BodyWords.TheVariants.{Withdraw, Void, Query}
-use Rattle.s10_cli.specs.Options.{AreCallOptions}
+use Rattle.s10_cli.specs.Options.{AreCallOptions, HasIssueFilter}
 use Rattle.s10_cli.specs.Jobs.{AsksFor, AsksInWords, AsksByWords, AsksOrFails, IsNamedJob, status_in}
-use Rattle.s10_cli.specs.Jobs.{IsBodyOf, IsCallOf, is_of_the_post}
+use Rattle.s10_cli.specs.Jobs.{IsBodyOf, IsCallOf, IsKind, is_of_the_post}
 use Rattle.s10_cli.specs.CommandLine.{EndsLine}
 use Rattle.s10_cli.specs.declared.line_end.LineEnd.{LineEnd}
 use Rattle.s10_cli.specs.declared.line_end.LineEnd.TheVariants.{Ended, Asks}
@@ -66,18 +69,33 @@ headless rows name none is (Create ledger settings) asks = other _ _ asks.0 is r
 headless rows name none is (Serve ledger bind options until) asks = other _ _ asks.0 is refl
 headless rows name none is (Notes file customer first lst) asks = other _ _ asks.0 is refl
 headless rows name none is (Again to notes tries) asks = other _ _ asks.0 is refl
-headless rows name none is (Report ledger Ranges day) asks = other _ _ asks.0.0 is refl
-headless rows name none is (Report ledger Issues day) asks = other _ _ asks.0.0 is refl
+headless rows name none is (Report ledger (Ranges filter format) day) asks = other _ _ asks.0.0 is
+    refl
+headless rows name none is (Report ledger (Issues asked) day) asks = other _ _ asks.0.0 is refl
 headless rows name none is (Report ledger Info day) asks = other _ _ asks.0 is refl
 headless rows name none is (Audit ledger) asks = other _ _ asks.0 is refl
-headless rows name none is (Snapshot ledger (ReportOf Ranges day)) asks =
+headless rows name none is (Snapshot ledger (ReportOf (Ranges filter format) day)) asks =
     other _ _ asks.0.0 is refl
-headless rows name none is (Snapshot ledger (ReportOf Issues day)) asks =
+headless rows name none is (Snapshot ledger (ReportOf (Issues asked) day)) asks =
     other _ _ asks.0.0 is refl
 headless rows name none is (Snapshot ledger (ReportOf Info day)) asks = other _ _ asks.0 is refl
 headless rows name none is (Snapshot ledger AuditOf) asks = other _ _ asks.0 is refl
 headless rows name none is (Copy ledger to) asks = other _ _ asks.0 is refl
 headless rows name none is (Loop day) asks = other _ _ asks.0 is refl
+
+-- Without a filter that the options give, no report is asked for.
+pub no_kind : (rows : List Row) → ((filter : IssueFilter) → ¬ HasIssueFilter rows filter)
+    → (kind : ReportKind) → ¬ IsKind (codes "report") rows kind
+no_kind rows none (Ranges filter format) asks =
+    none (record {
+      customer = filter.customer;
+      range = filter.range;
+      id = filter.id;
+      from_day = None;
+      to_day = None;
+    }) (asks.4.0, asks.4.1, asks.4.2, asks.2, asks.3)
+no_kind rows none (Issues asked) asks = none asked.filter asks.2
+no_kind rows none Info asks = absurd cc
 
 -- The subcommand that was named is that of the words.
 module _ (words : List Text) (faultless : fault_of grammar words ≡ []) where

@@ -16,12 +16,14 @@ use Rattle.clap.specs.Words.{Row, ReadsOne, all_of, first_value, matched_of, one
 use Rattle.clap.specs.Words.{rows_of}
 use Rattle.clap.specs.declared.parser.matches.Found.{Found}
 use Rattle.clap.proofs.WalkLemmas.{first_value-rows, one_text-rows, raw_values-rows}
+use Rattle.s10_core.specs.declared.id.Id.{Id}
+use Rattle.s10_core.specs.Id.{SpellsLoosely}
 use Rattle.s10_core.specs.Serial.{IsSerial}
 use Rattle.s10_wire.specs.Ids.{IsCount}
 use Rattle.s10_history.specs.Settings.{Terms, AreTerms}
 use Rattle.s10_cli.specs.CommandLine.{RunsLine}
 use Rattle.s10_cli.specs.Options.{Finds, HasCount, HasNumber, HasParts, HasSerial, HasSettings}
-use Rattle.s10_cli.specs.Options.{HasText, HasTries, IsFlag}
+use Rattle.s10_cli.specs.Options.{HasIdentifier, HasText, HasTries, IsFlag}
 use Rattle.s10_cli.specs.declared.parts.Parts.{Parts}
 
 pub number_unique : (rows : List Row) (name : List ℕ) (a b : ℕ) → HasNumber rows name a
@@ -83,6 +85,15 @@ finds_number {E} gives parses f name o none value = go (one_text f name) refl o 
         not_number f name text e (parses text (Err failed.0) failed.1)
     go (Some text) e (Some n) none value =
         is_number f name text n e (parses text (Ok n) (value text e))
+
+-- A text that spells no identifier gives none.
+pub no_identifier : (rows : List Row) (name text : List ℕ) → HasText rows name text
+    → ((id : Id) → ¬ SpellsLoosely text id) → (id : Option Id) → ¬ HasIdentifier rows name id
+unfolding HasText
+no_identifier rows name text has none None given = given text has
+no_identifier rows name text has none (Some id) given =
+    let same : given.0 ≡ text = same_Some _ _ (sym given.1 ∙ has) in
+    none id (subst (λ (t : List ℕ). SpellsLoosely t id) same given.2)
 
 -- A list of three.
 pub three_are : (xs : List (Bor (List ℕ))) (d : Bor (List ℕ)) → length xs ≡ 3 → map (λ v. v.now) xs

@@ -1,7 +1,8 @@
 -- The job that a subcommand asks for: the option that gives each field.
 use Rattle.std.specs.Prelude.{◌≡◌, ℕ, Bool, true, false, List, [], Option, Some, None, codes}
-use Rattle.std.specs.Prelude.{option_map, ⊤}
+use Rattle.std.specs.Prelude.{option_map, is_some, ◌||◌, ◌⊎◌, ⊤}
 use Rattle.clap.specs.Words.{Row, Text, fault_of, subcommand_of}
+use Rattle.s10_reports.specs.declared.issue_filter.IssueFilter.{IssueFilter}
 use Rattle.s10_jobs.specs.declared.job.Job.{Job}
 use Rattle.s10_jobs.specs.declared.job.Job.TheVariants.{Create, Serve, Ask, AskByNotes, Notes}
 use Rattle.s10_jobs.specs.declared.job.Job.TheVariants.{Again, Report, Audit, Snapshot, Copy, Loop}
@@ -14,6 +15,7 @@ use Rattle.s10_jobs.specs.declared.body_words.BodyWords.TheVariants.{Withdraw, V
 use Rattle.s10_grammar.specs.Grammar.{grammar}
 use Rattle.s10_cli.specs.Options.{Finds, HasText, HasNumber, HasSerial, HasSettings, HasCount}
 use Rattle.s10_cli.specs.Options.{HasTries, HasTurnOptions, IsFlag, AreCallOptions}
+use Rattle.s10_cli.specs.Options.{HasFormat, HasIssueFilter, HasRangeFilter}
 use Rattle.s10_cli.specs.declared.asker.Asker.TheVariants.{Numbered, Noted}
 use Rattle.s10_cli.specs.declared.call_options.CallOptions.{CallOptions}
 use Rattle.s10_cli.specs.declared.line_end.LineEnd.{LineEnd}
@@ -52,10 +54,21 @@ abbrev pub IsCallOf : List ℕ → List Row → CallOptions → BodyWords → Ty
 IsCallOf name rows options body = AreCallOptions (is_of_the_post body) rows options
     × IsBodyOf name rows body
 
--- The kind of report that is asked for: by `report` with or without its flag, or by `info`.
+-- A day of issues was given.
+abbrev pub has_days : IssueFilter → Bool
+has_days filter = is_some filter.from_day || is_some filter.to_day
+
+-- The kind of report that is asked for. `report` is of the issues if its flag or a day of issues was
+-- given, otherwise of the ranges. `info` is of the whole ledger.
 abbrev pub IsKind : List ℕ → List Row → ReportKind → Type 0
-IsKind name rows Ranges = (name ≡ codes "report") × IsFlag rows (codes "issues") false
-IsKind name rows Issues = (name ≡ codes "report") × IsFlag rows (codes "issues") true
+IsKind name rows (Ranges filter format) = (name ≡ codes "report")
+    × IsFlag rows (codes "issues") false
+    × ((d : ℕ) → ¬ HasNumber rows (codes "from-day") d)
+    × ((d : ℕ) → ¬ HasNumber rows (codes "to-day") d)
+    × HasRangeFilter rows filter × HasFormat rows format
+IsKind name rows (Issues asked) = (name ≡ codes "report")
+    × (IsFlag rows (codes "issues") true ⊎ (has_days asked.filter ≡ true))
+    × HasIssueFilter rows asked.filter × HasFormat rows asked.format
 IsKind name rows Info = name ≡ codes "info"
 
 -- The subcommand with this name and these rows asks for the job.

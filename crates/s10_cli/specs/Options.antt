@@ -4,9 +4,15 @@ use Rattle.std.specs.Prelude.{Some, None, codes, MatchOption}
 use Rattle.std.specs.Str.Parse.{IsNumeral, digits_value, without_leading_plus}
 use Rattle.clap.specs.Words.{Row, all_of, first_of, one_of, found_of, rows_of}
 use Rattle.clap.specs.declared.parser.matches.ArgMatches.{ArgMatches}
+use Rattle.s10_core.specs.declared.id.Id.{Id}
+use Rattle.s10_core.specs.Id.{SpellsLoosely}
 use Rattle.s10_core.specs.Serial.{IsSerial}
 use Rattle.s10_wire.specs.Ids.{IsCount}
 use Rattle.s10_history.specs.Settings.{Terms, AreTerms}
+use Rattle.s10_reports.specs.declared.range_filter.RangeFilter.{RangeFilter}
+use Rattle.s10_reports.specs.declared.issue_filter.IssueFilter.{IssueFilter}
+use Rattle.s10_reports.specs.declared.report_format.ReportFormat.{ReportFormat}
+use Rattle.s10_reports.specs.declared.report_format.ReportFormat.TheVariants.{Lines, Csv}
 use Rattle.s10_jobs.specs.declared.turn_options.TurnOptions.{TurnOptions}
 use Rattle.s10_cli.specs.declared.asker.Asker.{Asker}
 use Rattle.s10_cli.specs.declared.asker.Asker.TheVariants.{Numbered, Noted}
@@ -74,6 +80,31 @@ HasSerial rows name serial = HasNumber rows name serial × IsSerial serial
 abbrev pub IsCustomer : Bool → List Row → ℕ → Type 0
 IsCustomer true rows customer = customer ≡ 0
 IsCustomer false rows customer = HasNumber rows (codes "customer") customer
+
+-- The identifier of an option, as on a label; none if the option was not given.
+abbrev pub HasIdentifier : List Row → List ℕ → Option Id → Type 0
+HasIdentifier rows name None = (text : List ℕ) → ¬ HasText rows name text
+HasIdentifier rows name (Some id) = (text : List ℕ) × HasText rows name text
+    × SpellsLoosely text id
+
+-- Which ranges the options select.
+abbrev pub HasRangeFilter : List Row → RangeFilter → Type 0
+HasRangeFilter rows filter = Finds (HasNumber rows (codes "customer")) filter.customer
+    × Finds (HasNumber rows (codes "range")) filter.range
+    × HasIdentifier rows (codes "id") filter.id
+
+-- Which issuances the options select.
+abbrev pub HasIssueFilter : List Row → IssueFilter → Type 0
+HasIssueFilter rows filter = Finds (HasNumber rows (codes "customer")) filter.customer
+    × Finds (HasNumber rows (codes "range")) filter.range
+    × HasIdentifier rows (codes "id") filter.id
+    × Finds (HasNumber rows (codes "from-day")) filter.from_day
+    × Finds (HasNumber rows (codes "to-day")) filter.to_day
+
+-- How a report is written: as records if the flag was given.
+abbrev pub HasFormat : List Row → ReportFormat → Type 0
+HasFormat rows Lines = IsFlag rows (codes "csv") false
+HasFormat rows Csv = IsFlag rows (codes "csv") true
 
 -- What gives a request its number: a number and a customer without notes, or notes without either.
 abbrev pub IsAsker : Bool → List Row → Asker → Type 0

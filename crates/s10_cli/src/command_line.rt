@@ -51,18 +51,31 @@ pub fn run_line<'a, R: Eprint + AllocGlobal, S: AsStr, I: Read, O: Write>(
 }
 
 // Returns the job that the subcommand asks for. If it asks for none, prints a fault of the command
-// line: only a call of a server may lack one, since the grammar lets its number be left out.
+// line: a call of a server may lack its number, which the grammar lets be left out, and a report may
+// have an `--id` that is no identifier.
 fn job_or_fault<'a, R: Eprint>(rt: &R, matches: &ArgMatches<'a>) -> LineEnd<'a>
     ensures { AsksOrFails (subcommand_rows_of matches.now) result }
 {
     match job_in(matches) {
         Some(job) => LineEnd::Asks(job),
         None => {
-            let _ = rt.eprintln(NO_NUMBER);
+            let _ = rt.eprintln(fault_of(matches));
             LineEnd::Ended(JobStatus::CommandLine as u8)
         }
     }
 }
+
+fn fault_of(matches: &ArgMatches<'_>) -> &'static str {
+    match matches.subcommand() {
+        Some(("report", _)) => NO_IDENTIFIER,
+        _ => NO_NUMBER,
+    }
+}
+
+const NO_IDENTIFIER: &str = "\
+error: the text of --id is no identifier, such as RA473124829US
+
+For more information, try '--help'.";
 
 const NO_NUMBER: &str = "\
 error: a request needs either --notes, or --number and, but for grant and withdraw, --customer

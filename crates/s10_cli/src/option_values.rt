@@ -1,10 +1,11 @@
 //! Reads the options of a parsed command line.
-ghost use Rattle.std.specs.Prelude.{option_map};
+ghost use Rattle.std.specs.Prelude.{IfErr, IfOk, Option, option_map};
+ghost use Rattle.s10_core.specs.declared.id.Id.{Id};
 ghost use Rattle.s10_cli.specs.Options.{rows_in, Finds, HasText, HasNumber, IsFlag, HasSerial};
-ghost use Rattle.s10_cli.specs.Options.{HasSettings, HasCount, HasTries};
+ghost use Rattle.s10_cli.specs.Options.{HasIdentifier, HasSettings, HasCount, HasTries};
 
 use clap::ArgMatches;
-use s10_core::Serial;
+use s10_core::{Id, Serial, TextFault};
 use s10_history::Settings;
 use s10_jobs::Tries;
 use s10_wire::Count;
@@ -25,6 +26,26 @@ pub fn number_of(found: &ArgMatches<'_>, name: &str) -> Option<u32>
     ensures { Finds (HasNumber (rows_in found.now) name.now) result }
 {
     found.get_one::<u32>(name)
+}
+
+/// Returns the identifier of an option, read as on a label, or `None` if the option was not given.
+///
+/// # Errors
+///
+/// `TextFault` if the text is no identifier.
+#[tactic(auto, using(crate::proofs::OptionLemmas::no_identifier))]
+pub fn id_of(found: &ArgMatches<'_>, name: &str) -> Result<Option<Id>, TextFault>
+    ensures ok { IfOk result (HasIdentifier (rows_in found.now) name.now) }
+    ensures err { IfErr result (λ fault. (id : Option Id)
+        → ¬ HasIdentifier (rows_in found.now) name.now id) }
+{
+    match text_of(found, name) {
+        None => Ok(None),
+        Some(text) => match Id::read_label(text.as_bytes()) {
+            Ok(id) => Ok(Some(id)),
+            Err(fault) => Err(fault),
+        },
+    }
 }
 
 /// Returns whether a flag was given.

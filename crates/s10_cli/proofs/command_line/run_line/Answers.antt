@@ -1,5 +1,4 @@
-use Rattle.std.proofs.Common.{refl}
-use Rattle.s10_cli.proofs.AskLemmas.{asks_in_words, left_line}
+use Rattle.s10_cli.proofs.AskLemmas.{asks_in_words}
 use Rattle.s10_cli.proofs.command_line.run_line.Goals as goal
 
 pub returns-in-Ok-clause-asks : goal.returns-in-Ok-clause-asks
