@@ -5,6 +5,7 @@ mod answers;
 mod batched;
 mod books;
 mod both_books;
+mod dates;
 mod failures;
 mod granted;
 mod hash_seeds;

@@ -218,6 +218,7 @@ covered h x = ap (λ (test : Range → Bool). find test (ranges_of h)) (λ i r. 
     and_true : (a b : Bool) → b ≡ true → (a && b) ≡ a
     and_true true b e = e
     and_true false b e = refl
+
     same_test : (r : Range) → overlaps x.service x.country x.serial x.serial r ≡ lies_in r x
     same_test r = and_true (lies_in r x) (nat_le x.serial x.serial)
         (le-leb x.serial x.serial (omega arith))

@@ -1,9 +1,10 @@
 //! Comparison of the book with an index and the book without.
 
+use crate::book::reports::{ALL_ISSUES, ALL_RANGES};
 use s10_book::{Book, PlainBook};
 use s10_history::Settings;
 use s10_index::{HashSeed, IndexedBook};
-use s10_reports::{ReportFault, write_issues, write_ranges};
+use s10_reports::{ReportFault, ReportFormat, write_issues, write_ranges};
 use s10_test_help::expect::same;
 use std::alloc::Global;
 use std::process::Abort;
@@ -26,8 +27,8 @@ pub(crate) fn indexed_book(alloc: Global) -> IndexedBook {
 /// Returns the report of the ranges on a day, followed by the report of the issues.
 fn reports<B: Book>(alloc: Global, book: &mut B, day: u32) -> Result<Vec<u8>, ReportFault> {
     let mut out = Vec::new(alloc);
-    write_ranges(book, day, &mut out)?;
-    write_issues(book, &mut out)?;
+    write_ranges(book, &ALL_RANGES, ReportFormat::Lines, day, &mut out)?;
+    write_issues(book, &ALL_ISSUES, &mut out)?;
     Ok(out)
 }
 

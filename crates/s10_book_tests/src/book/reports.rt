@@ -2,11 +2,14 @@
 
 use crate::book::books::book_after;
 use s10_book::{Book, BookFault, TripBook};
-use s10_reports::{ReportFault, write_issues, write_ranges};
+use s10_reports::{
+    IssueFilter, IssuesReport, RangeFilter, ReportFault, ReportFormat, write_issues, write_ranges,
+};
 use s10_test_help::answered::Answered::{Drawn, DrawnMany, Granted, Voided, Withdrawn};
 use s10_test_help::asked::Asked::{Draw, DrawMany, Grant, Void, Withdraw};
 use s10_test_help::expect::same;
 use s10_test_help::hiccup::Hiccup;
+use s10_test_help::samples::id;
 use s10_test_help::steps::{NINE_CALLS, OPENING, SIX_CALLS, Step};
 use std::alloc::Global;
 use std::io::Write;
@@ -47,6 +50,25 @@ const SHEETS_ISSUES: &[u8] = b"arrival day customer number identifier state\n\
 3 20030 7 2 RA000000028GB issued\n\
 3 20030 7 2 RA000000005GB voided\n";
 
+/// Admits every range.
+pub(crate) const ALL_RANGES: RangeFilter = RangeFilter {
+    customer: None,
+    range: None,
+    id: None,
+};
+
+/// Every issuance, as lines.
+pub(crate) const ALL_ISSUES: IssuesReport = IssuesReport {
+    filter: IssueFilter {
+        customer: None,
+        range: None,
+        id: None,
+        from_day: None,
+        to_day: None,
+    },
+    format: ReportFormat::Lines,
+};
+
 /// Writes the report of the ranges on a day, or the report of the issues if there is no day.
 fn write_report<B: Book, W: Write>(
     book: &mut B,
@@ -54,8 +76,8 @@ fn write_report<B: Book, W: Write>(
     out: &mut W,
 ) -> Result<(), ReportFault> {
     match day {
-        Some(day) => write_ranges(book, day, out),
-        None => write_issues(book, out),
+        Some(day) => write_ranges(book, &ALL_RANGES, ReportFormat::Lines, day, out),
+        None => write_issues(book, &ALL_ISSUES, out),
     }
 }
 
@@ -166,7 +188,7 @@ fn first_without_failure<R: Abort + Eprint + AllocGlobal>(
     100
 }
 
-// The report of the issues makes 14 calls of the book, and the report of the ranges makes 4.
+// The report of the issues makes 19 calls of the book, and the report of the ranges makes 4.
 #[test]
 fn a_book_that_fails_leaves_whole_lines(rt: HostRuntime) {
     assert!(rt;
@@ -174,7 +196,7 @@ fn a_book_that_fails_leaves_whole_lines(rt: HostRuntime) {
             &rt,
             &"issues",
             &first_without_failure(&rt, None, ISSUES),
-            &14,
+            &19,
         )
     );
     assert!(rt;
@@ -244,4 +266,148 @@ fn a_writer_that_fails_once_has_the_beginning_of_the_report(rt: HostRuntime) {
     for (fault, text) in TEXTS {
         assert!(rt; has_text(rt.alloc(), fault, text));
     }
+}
+
+/// A filter of ranges: a customer, a range, the serial of an identifier; then the lines that it leaves
+/// of the two ranges, after the headings.
+type RangeCase = (Option<u32>, Option<u32>, Option<u32>, &'static str);
+
+const RANGE_1: &str = "1 7 RA GB 00000000 00000002 1 1 2 closed\n";
+
+const RANGE_2: &str = "2 8 RA GB 00000003 00000003 0 0 1\n";
+
+const RANGE_CASES: &[RangeCase] = &[
+    (Some(7), None, None, RANGE_1),
+    (Some(8), None, None, RANGE_2),
+    (Some(9), None, None, ""),
+    (None, Some(1), None, RANGE_1),
+    (None, Some(2), None, RANGE_2),
+    (None, Some(3), None, ""),
+    (None, None, Some(2), RANGE_1),
+    (None, None, Some(3), RANGE_2),
+    (None, None, Some(4), ""),
+    (Some(8), Some(2), Some(3), RANGE_2),
+    (Some(7), Some(2), None, ""),
+    (Some(7), None, Some(3), ""),
+];
+
+/// Returns whether the ranges that a filter leaves have these lines.
+fn leaves_ranges<B: Book + Drop>(alloc: Global, mut book: B, case: &RangeCase) -> bool {
+    let (customer, range, serial, lines) = *case;
+    let filter = RangeFilter {
+        customer,
+        range,
+        id: serial.map(id),
+    };
+    let mut out = Vec::new(alloc);
+    let written = write_ranges(&mut book, &filter, ReportFormat::Lines, 20_000, &mut out);
+    written == Ok(()) && out.starts_with(NO_RANGES) && &out[NO_RANGES.len()..] == lines.as_bytes()
+}
+
+#[test]
+fn a_filter_leaves_the_ranges_that_agree_with_all_of_it(rt: HostRuntime) {
+    for case in RANGE_CASES {
+        let book = book_after(&rt, "a closed range", CLOSED_RANGE);
+        assert!(rt; leaves_ranges(rt.alloc(), book, case));
+    }
+}
+
+/// A filter of issues: a customer, a range, the serial of an identifier, the first and the last day;
+/// then the lines that it leaves of the nine calls, after the headings.
+type IssueCase = (
+    Option<u32>,
+    Option<u32>,
+    Option<u32>,
+    (Option<u32>, Option<u32>),
+    &'static str,
+);
+
+const FIRST_DAY: &str = "2 20000 7 1 RA000000005GB reissued\n\
+3 20000 7 2 RA000000014GB reissued\n\
+6 20000 7 5 RA000000028GB issued\n";
+
+const LAST_DAY: &str = "8 20030 7 7 RA000000005GB issued\n\
+9 20030 7 8 RA000000014GB issued\n";
+
+const SERIAL_0: &str = "2 20000 7 1 RA000000005GB reissued\n\
+8 20030 7 7 RA000000005GB issued\n";
+
+const ISSUE_CASES: &[IssueCase] = &[
+    (None, None, None, (None, Some(20_000)), FIRST_DAY),
+    (None, None, None, (None, Some(20_029)), FIRST_DAY),
+    (None, None, None, (Some(20_001), None), LAST_DAY),
+    (None, None, None, (Some(20_030), None), LAST_DAY),
+    (None, None, None, (Some(20_030), Some(20_030)), LAST_DAY),
+    (None, None, None, (Some(20_001), Some(20_029)), ""),
+    (None, None, Some(0), (None, None), SERIAL_0),
+    (None, None, Some(3), (None, None), ""),
+    (Some(8), None, None, (None, None), ""),
+    (None, Some(2), None, (None, None), ""),
+    (
+        Some(7),
+        Some(1),
+        Some(0),
+        (Some(20_000), Some(20_030)),
+        SERIAL_0,
+    ),
+];
+
+/// Returns whether the issues that a filter leaves have these lines.
+fn leaves_issues<B: Book + Drop>(alloc: Global, mut book: B, case: &IssueCase) -> bool {
+    let (customer, range, serial, (from_day, to_day), lines) = *case;
+    let report = IssuesReport {
+        filter: IssueFilter {
+            customer,
+            range,
+            id: serial.map(id),
+            from_day,
+            to_day,
+        },
+        format: ReportFormat::Lines,
+    };
+    let mut out = Vec::new(alloc);
+    let written = write_issues(&mut book, &report, &mut out);
+    written == Ok(()) && out.starts_with(NO_ISSUES) && &out[NO_ISSUES.len()..] == lines.as_bytes()
+}
+
+#[test]
+fn a_filter_leaves_the_issues_that_agree_with_all_of_it(rt: HostRuntime) {
+    for case in ISSUE_CASES {
+        let book = book_after(&rt, "nine calls", NINE_CALLS);
+        assert!(rt; leaves_issues(rt.alloc(), book, case));
+    }
+}
+
+const RANGE_RECORDS: &[u8] =
+    b"range,customer,service,country,first,last,used,voided,free,closed,day,date\r\n\
+1,7,RA,GB,00000000,00000002,1,1,2,yes,20001,2024-10-05\r\n\
+2,8,RA,GB,00000003,00000003,0,0,1,no,20001,2024-10-05\r\n";
+
+const ISSUE_RECORDS: &[u8] = b"arrival,day,date,customer,number,identifier,range,state\r\n\
+2,20000,2024-10-04,7,1,RA000000005GB,1,reissued\r\n\
+3,20000,2024-10-04,7,2,RA000000014GB,1,reissued\r\n\
+6,20000,2024-10-04,7,5,RA000000028GB,1,issued\r\n\
+8,20030,2024-11-03,7,7,RA000000005GB,1,issued\r\n\
+9,20030,2024-11-03,7,8,RA000000014GB,1,issued\r\n";
+
+/// Returns whether the records of the ranges on a day, and those of the issues without one, are these.
+fn records<B: Book + Drop>(alloc: Global, mut book: B, day: Option<u32>, wanted: &[u8]) -> bool {
+    let mut out = Vec::new(alloc);
+    let issues = IssuesReport {
+        filter: ALL_ISSUES.filter,
+        format: ReportFormat::Csv,
+    };
+    let written = match day {
+        Some(day) => write_ranges(&mut book, &ALL_RANGES, ReportFormat::Csv, day, &mut out),
+        None => write_issues(&mut book, &issues, &mut out),
+    };
+    written == Ok(()) && out.as_slice() == wanted
+}
+
+#[test]
+fn records_have_each_day_also_as_a_date(rt: HostRuntime) {
+    let ranges = book_after(&rt, "a closed range", CLOSED_RANGE);
+    assert!(rt; records(rt.alloc(), ranges, Some(20_001), RANGE_RECORDS));
+    let issues = book_after(&rt, "nine calls", NINE_CALLS);
+    assert!(rt; records(rt.alloc(), issues, None, ISSUE_RECORDS));
 }

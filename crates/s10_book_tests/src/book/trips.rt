@@ -1,10 +1,11 @@
 //! Which call of a `TripBook` fails.
 
 use crate::book::books::book_after;
+use crate::book::reports::ALL_RANGES;
 use s10_book::{Batched, Book, BookFault, GroupCommit, TripBook, decide, successive_draws};
 use s10_core::Id;
 use s10_history::{HolderKey, SerialSpan};
-use s10_reports::{ReportFault, write_ranges};
+use s10_reports::{ReportFault, ReportFormat, write_ranges};
 use s10_test_help::expect::same;
 use s10_test_help::samples::{id, sheet};
 use s10_test_help::steps::{OPENING, answer};
@@ -108,7 +109,7 @@ fn decided<B: Book>(book: &mut B, request: &Request) -> Result<(), BookFault> {
 
 fn report<B: Book>(alloc: Global, book: &mut B) -> Result<(), BookFault> {
     let mut out = Vec::new(alloc);
-    match write_ranges(book, 20_000, &mut out) {
+    match write_ranges(book, &ALL_RANGES, ReportFormat::Lines, 20_000, &mut out) {
         Ok(()) => Ok(()),
         Err(ReportFault::Book(fault)) => Err(fault),
         Err(ReportFault::Write) => Err(BookFault::Memory),
