@@ -239,7 +239,8 @@ def try_statuses(folder):
     ends = {
         0: (["check", "RA473124829US"], ["--version"], ["help", "draw"]),
         1: (["check", "RA473124828US"], ["make", "RA", "1", "GB"], [*DRAW, "--to", "nowhere"]),
-        2: (["bogus"], ["audit"]),
+        2: (["bogus"], ["audit"], ["report", "--ledger", "x", "--id", "RA000000006GB"],
+            ["report", "--ledger", "x", "--customer", "-1"]),
         3: (["audit", "--ledger", f"{folder}/missing"], ["report", "--ledger", f"{folder}/no/ledger"]),
     }
     for status, lines in ends.items():

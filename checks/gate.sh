@@ -112,6 +112,7 @@ run_checks() {
     check texts 300 'program python3' python3 "$contrib/write_texts.py" --check "$s10"
     check edges 600 'program python3' python3 "$checks/edges.py" "$s10"
     check completions 600 'program python3' env S10="$s10" python3 "$contrib/test_completions.py"
+    check ledger_page 600 'program python3' env S10="$s10" python3 "$contrib/test_ledger_page.py"
     check dissector 900 'program python3 tshark' env S10="$s10" python3 "$contrib/test_dissector.py"
     check pages 1800 'program python3' python3 "$checks/documents.py" "$s10"
     check killed_server 900 program sh "$checks/killed_server.sh" "$s10"
