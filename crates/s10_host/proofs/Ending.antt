@@ -32,7 +32,8 @@ use Rattle.s10_jobs.specs.declared.reporting.Report.{Report}
 use Rattle.s10_jobs.specs.declared.reporting.Report.TheVariants.{Issues}
 use Rattle.s10_jobs.specs.declared.report_kind.ReportKind.{ReportKind}
 use Rattle.s10_jobs.specs.declared.report_kind.ReportKind.TheVariants.{Issues as OfIssues}
-use Rattle.s10_jobs.specs.Reporting.{report_on}
+use Rattle.s10_jobs.specs.Reporting.{IsOfIssues, report_on}
+use Rattle.s10_reports.specs.declared.issues_report.IssuesReport.{IssuesReport}
 use Rattle.s10_host.specs.declared.loop_resources.LoopResources.{LoopResources}
 use Rattle.s10_jobs.specs.Unbound.{IsUnbound}
 use Rattle.s10_host.specs.Files.{FileConnection, FileLedger, ClosedFiles, Copies, ClosesInto}
@@ -99,10 +100,12 @@ module _ {C : Type 0} (gives : C → Option ℕ → C → Type 0) (day : Option 
   dated_on kind made report is (None, taken, so) = absurd cc
 
   pub asked_for : (kind : ReportKind) (made : Option Report) (report : Report)
-      → made ≡ Some report → (kind ≡ OfIssues → (made ≡ Some Issues) × (ended ≡ begun))
-      → (kind ≢ OfIssues → Made kind made) → IsAskedFor gives kind day begun ended report
+      → made ≡ Some report
+      → ((asked : IssuesReport) → kind ≡ OfIssues asked → (made ≡ Some (Issues asked))
+      × (ended ≡ begun))
+      → (¬ IsOfIssues kind → Made kind made) → IsAskedFor gives kind day begun ended report
   asked_for kind made report is issues dated = record {
-    issues = λ so. let one = issues so in (cc, one.1);
+    issues = λ asked so. let one = issues asked so in (cc, one.1);
     dated = λ other. dated_on kind made report is (dated other);
   }
 
@@ -113,11 +116,12 @@ module _ {C : Type 0} (gives : C → Option ℕ → C → Type 0) (day : Option 
 
   -- There is no report only if one was asked for that needs a day, and there is no day.
   pub no_report : (kind : ReportKind) (made : Option Report) → made ≡ None
-      → (kind ≡ OfIssues → (made ≡ Some Issues) × (ended ≡ begun))
-      → (kind ≢ OfIssues → Made kind made)
-      → (kind ≢ OfIssues) × IsTaken gives day None begun ended
+      → ((asked : IssuesReport) → kind ≡ OfIssues asked → (made ≡ Some (Issues asked))
+      × (ended ≡ begun))
+      → (¬ IsOfIssues kind → Made kind made)
+      → (¬ IsOfIssues kind) × IsTaken gives day None begun ended
   no_report kind made is issues dated =
-      let other : kind ≢ OfIssues = λ so. let one = (issues so).0 in absurd cc in
+      let other : ¬ IsOfIssues kind = λ of. let one = (issues of.0 of.1).0 in absurd cc in
       (other, no_taken kind made is (dated other))
 
 -- If no call was pending, a job ends as it was done.
@@ -557,7 +561,7 @@ module _ (S : RattleType) (first : Ghosts S.Denot) where
   pub no_day : {C : Type 0} (gives : C → Option ℕ → C → Type 0) (kind : ReportKind)
       (day : Option ℕ) (begun ended : C) (old new : Option (List ℕ))
       (printed result : Result JobStatus WriteFault) (files : Option (ClosedFiles S first))
-      → (kind ≢ OfIssues) × IsTaken gives day None begun ended
+      → (¬ IsOfIssues kind) × IsTaken gives day None begun ended
       → IfOk printed (λ status. (status ≡ Failed) × Appends old new (codes "clock\n"))
       → result ≡ printed → files ≡ None
       → HasReported S first gives kind day begun ended old new result files

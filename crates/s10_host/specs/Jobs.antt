@@ -35,7 +35,8 @@ use Rattle.s10_jobs.specs.declared.reporting.Report.TheVariants.{Issues}
 use Rattle.s10_jobs.specs.declared.report_kind.ReportKind.{ReportKind}
 use Rattle.s10_jobs.specs.declared.report_kind.ReportKind.TheVariants.{Issues as OfIssues}
 use Rattle.s10_host.specs.Audited.{HasFound, HoldsAudited, audit_line, audit_status}
-use Rattle.s10_jobs.specs.Reporting.{report_lines, report_on, PrintsReport}
+use Rattle.s10_jobs.specs.Reporting.{IsOfIssues, report_lines, report_on, PrintsReport}
+use Rattle.s10_reports.specs.declared.issues_report.IssuesReport.{IssuesReport}
 use Rattle.s10_jobs.specs.Days.{IsTaken}
 use Rattle.s10_jobs.specs.Questioning.{IsAsked, IsUnasked}
 use Rattle.s10_host.specs.declared.loop_resources.LoopResources.{LoopResources}
@@ -77,8 +78,9 @@ EndsAs (Err fault) done between new result = FailsByClosing done between new res
 -- given, on the first day that the source gave.
 pub record IsAskedFor {C : Type 0} (gives : C → Option ℕ → C → Type 0) (kind : ReportKind)
     (day : Option ℕ) (begun ended : C) (report : Report) : Type 0 where
-  pub issues : kind ≡ OfIssues → (report ≡ Issues) × (ended ≡ begun)
-  pub dated : kind ≢ OfIssues → (d : ℕ) × (report ≡ report_on kind d)
+  pub issues : (asked : IssuesReport) → kind ≡ OfIssues asked → (report ≡ Issues asked)
+      × (ended ≡ begun)
+  pub dated : ¬ IsOfIssues kind → (d : ℕ) × (report ≡ report_on kind d)
       × IsTaken gives day (Some d) begun ended
 
 -- The question was asked over the link that is returned, or the line says why it was not.
@@ -244,7 +246,7 @@ module _ (S : RattleType) (first : Ghosts S.Denot) where
       → Option (List ℕ) → Option (List ℕ) → Result JobStatus WriteFault
       → Option (ClosedFiles S first) → Type 0
   HasReported gives kind day begun ended old new result files =
-      ((kind ≢ OfIssues) × IsTaken gives day None begun ended × (files ≡ None)
+      (¬ IsOfIssues kind × IsTaken gives day None begun ended × (files ≡ None)
       × IfOk result (λ status. (status ≡ Failed) × Appends old new (codes "clock\n")))
       ⊎ ((report : Report) × (taken : _) × IsAskedFor gives kind day begun taken report
       × (IsUnopened old new result files ⊎ IsReportOf report old new result files))

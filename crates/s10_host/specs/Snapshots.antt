@@ -1,5 +1,5 @@
 -- Defines what a look at a snapshot of a ledger did, and what it printed.
-use Rattle.std.specs.Prelude.{◌≡◌, ◌≢◌, ◌⊎◌, ℕ, List, [], ◌∷◌, codes, Option, Some, None, Result}
+use Rattle.std.specs.Prelude.{◌≡◌, ◌⊎◌, ℕ, List, [], ◌∷◌, codes, Option, Some, None, Result}
 use Rattle.std.specs.Prelude.{Ok, Err, OnOk, IfOk, IfSome}
 use Rattle.std.specs.Io.KnownBytes.{Appends}
 use Rattle.sqlite_disk.specs.declared.Disk as disk
@@ -28,9 +28,8 @@ use Rattle.s10_jobs.specs.declared.job_status.JobStatus.TheVariants.{Failed}
 use Rattle.s10_jobs.specs.declared.look.Look.{Look}
 use Rattle.s10_jobs.specs.declared.look.Look.TheVariants.{Report as AReport, Audit as AnAudit}
 use Rattle.s10_jobs.specs.declared.reporting.Report.{Report}
-use Rattle.s10_jobs.specs.declared.report_kind.ReportKind.TheVariants.{Issues as OfIssues}
 use Rattle.s10_jobs.specs.Days.{IsTaken as IsDayTaken}
-use Rattle.s10_jobs.specs.Reporting.{report_lines, PrintsReport}
+use Rattle.s10_jobs.specs.Reporting.{IsOfIssues, report_lines, PrintsReport}
 use Rattle.s10_host.specs.declared.snapshot_job.SnapshotJob.{SnapshotJob}
 use Rattle.s10_host.specs.declared.snapshot_job.SnapshotJob.TheVariants.{Report as ReportOf, Audit}
 use Rattle.s10_host.specs.declared.snapshot_resources.SnapshotResources.{SnapshotResources}
@@ -154,7 +153,7 @@ module _ {C : Type 0} (gives : C → Option ℕ → C → Type 0) where
 
   -- A report that needs a day was asked for, no day was given and the source gave none.
   abbrev pub HasNoDay : Look → C → C → Type 0
-  HasNoDay (AReport kind day) begun ended = (kind ≢ OfIssues) × IsDayTaken gives day None begun ended
+  HasNoDay (AReport kind day) begun ended = (¬ IsOfIssues kind) × IsDayTaken gives day None begun ended
   HasNoDay AnAudit begun ended = ⊥
 
   -- The snapshot was looked at. Or the line says why nothing was read, in this order: there is no

@@ -7,7 +7,7 @@ mod each_line;
 mod job_words;
 mod jobs;
 mod kept_files;
-mod ledgers;
+pub(crate) mod ledgers;
 mod loopback;
 mod questions;
 mod refused_files;

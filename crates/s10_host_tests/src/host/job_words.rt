@@ -15,6 +15,14 @@ use std::process::Abort;
 /// A command line, and the `Debug` text of the job that it asks for.
 type Line = (&'static str, &'static str);
 
+/// The kind of a report of all ranges.
+const ALL_RANGES: &str =
+    "Ranges { filter: RangeFilter { customer: None, range: None, id: None }, format: Lines }";
+
+/// The kind of a report of all issues.
+const ALL_ISSUES: &str =
+    "Issues(IssuesReport { filter: IssueFilter { customer: None, range: None, id: None, from_day: None, to_day: None }, format: Lines })";
+
 /// Each subcommand of the program, with its required options only.
 const LINES: &[Line] = &[
     (
@@ -55,7 +63,7 @@ const LINES: &[Line] = &[
     ),
     (
         "s10 report --ledger a.db",
-        r#"Some(Report { ledger: "a.db", kind: Ranges, day: None })"#,
+        r#"Some(Report { ledger: "a.db", kind: Ranges { filter: RangeFilter { customer: None, range: None, id: None }, format: Lines }, day: None })"#,
     ),
     (
         "s10 audit --ledger a.db",
@@ -165,7 +173,19 @@ const OPTIONS: &[Line] = &[
     ),
     (
         "s10 report --day 0 --issues --ledger 'a b.db'",
-        r#"Some(Report { ledger: "a b.db", kind: Issues, day: Some(0) })"#,
+        r#"Some(Report { ledger: "a b.db", kind: Issues(IssuesReport { filter: IssueFilter { customer: None, range: None, id: None, from_day: None, to_day: None }, format: Lines }), day: Some(0) })"#,
+    ),
+    (
+        "s10 report --issues --ledger a.db --customer 7 --range 1 --from-day 2 --to-day 3",
+        r#"Some(Report { ledger: "a.db", kind: Issues(IssuesReport { filter: IssueFilter { customer: Some(7), range: Some(1), id: None, from_day: Some(2), to_day: Some(3) }, format: Lines }), day: None })"#,
+    ),
+    (
+        "s10 report --csv --ledger a.db --to-day 3",
+        r#"Some(Report { ledger: "a.db", kind: Issues(IssuesReport { filter: IssueFilter { customer: None, range: None, id: None, from_day: None, to_day: Some(3) }, format: Csv }), day: None })"#,
+    ),
+    (
+        "s10 report --ledger a.db --id 'ra 0000 0000 5 gb'",
+        r#"Some(Report { ledger: "a.db", kind: Ranges { filter: RangeFilter { customer: None, range: None, id: Some(Id { service: Service { letters: LetterPair { first: 82, second: 65 } }, serial: Serial { value: 0 }, country: Country { letters: LetterPair { first: 71, second: 66 } } }) }, format: Lines }, day: None })"#,
     ),
     (
         "s10 info --ledger a.db",
@@ -177,11 +197,11 @@ const OPTIONS: &[Line] = &[
     ),
     (
         "s10 report --snapshot --ledger a.db",
-        r#"Some(Snapshot { ledger: "a.db", look: Report { kind: Ranges, day: None } })"#,
+        r#"Some(Snapshot { ledger: "a.db", look: Report { kind: Ranges { filter: RangeFilter { customer: None, range: None, id: None }, format: Lines }, day: None } })"#,
     ),
     (
         "s10 report --day 0 --issues --ledger a.db --snapshot",
-        r#"Some(Snapshot { ledger: "a.db", look: Report { kind: Issues, day: Some(0) } })"#,
+        r#"Some(Snapshot { ledger: "a.db", look: Report { kind: Issues(IssuesReport { filter: IssueFilter { customer: None, range: None, id: None, from_day: None, to_day: None }, format: Lines }), day: Some(0) } })"#,
     ),
     (
         "s10 info --ledger a.db --snapshot --day 20030",
@@ -572,7 +592,22 @@ const MORE: &[Reach] = &[
         "Tries { count: 9 }",
     ),
     (Report, ONE_MORE, "--day=9", "day: None", "day: Some(9)"),
-    (Report, ONE_MORE, "--issues", "kind: Ranges", "kind: Issues"),
+    (Report, ONE_MORE, "--issues", ALL_RANGES, ALL_ISSUES),
+    (Report, ONE_MORE, "--csv", "format: Lines", "format: Csv"),
+    (
+        Report,
+        ONE_MORE,
+        "--customer=7",
+        "customer: None",
+        "customer: Some(7)",
+    ),
+    (
+        Report,
+        ONE_MORE,
+        "--range=1",
+        "range: None",
+        "range: Some(1)",
+    ),
     (Loop, ONE_MORE, "--day=9", "day: None", "day: Some(9)"),
 ];
 
@@ -661,6 +696,12 @@ const WRONG_OPTIONS: &[Edit] = &[
     (Serve, ONE_MORE, "--most-days-ahead=4294967296"),
     (Serve, ONE_MORE, "--most-days-ahead=-1"),
     (Report, ONE_MORE, "--day=4294967296"),
+    (Report, ONE_MORE, "--customer=4294967296"),
+    (Report, ONE_MORE, "--range=-1"),
+    (Report, ONE_MORE, "--id=RA000000006GB"),
+    (Report, ONE_MORE, "--id="),
+    (Report, ONE_MORE, "--from-day=1.5"),
+    (Report, ONE_MORE, "--to-day=4294967296"),
     (Loop, ONE_MORE, "--day=4294967296"),
 ];
 

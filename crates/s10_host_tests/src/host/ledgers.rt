@@ -9,7 +9,9 @@ use s10_jobs::{JobStatus, write_answer};
 use s10_ledger::{HashSeed, NoObserver};
 use s10_lines::WriteFault;
 use s10_link::Packet;
-use s10_reports::{write_issues, write_ranges};
+use s10_reports::{
+    IssueFilter, IssuesReport, RangeFilter, ReportFormat, write_issues, write_ranges,
+};
 use s10_test_help::expect::holds;
 use s10_test_help::refusing::Refusing;
 use sqlite::{Alter, Connection, MemStore};
@@ -116,11 +118,30 @@ fn gives_nine_replies<B: GroupCommit + Drop>(alloc: Global, book: B) -> bool {
     is_same
 }
 
+/// Admits every range.
+pub(crate) const ALL_RANGES: RangeFilter = RangeFilter {
+    customer: None,
+    range: None,
+    id: None,
+};
+
+/// Every issuance, as lines.
+const ALL_ISSUES: IssuesReport = IssuesReport {
+    filter: IssueFilter {
+        customer: None,
+        range: None,
+        id: None,
+        from_day: None,
+        to_day: None,
+    },
+    format: ReportFormat::Lines,
+};
+
 /// Returns whether the two reports of a book, one after the other, are as worked by hand.
 fn are_as_worked<B: Book>(alloc: Global, book: &mut B) -> bool {
     let mut out = Vec::new(alloc);
-    write_ranges(book, 20_030, &mut out) == Ok(())
-        && write_issues(book, &mut out) == Ok(())
+    write_ranges(book, &ALL_RANGES, ReportFormat::Lines, 20_030, &mut out) == Ok(())
+        && write_issues(book, &ALL_ISSUES, &mut out) == Ok(())
         && out.as_slice() == REPORTS.as_bytes()
 }
 

@@ -1,10 +1,11 @@
 //! Sheets of identifiers, datagram by datagram, over a book in memory and over a ledger in tables.
 
+use crate::host::ledgers::ALL_RANGES;
 use crate::ledger::calls::{closed, ledger, settings};
 use s10_book::{Book, PlainBook};
 use s10_ends::{Answer, Delivery, Server};
 use s10_link::Packet;
-use s10_reports::write_ranges;
+use s10_reports::{ReportFormat, write_ranges};
 use s10_test_help::deliveries::{Delivered, GRANT, Want};
 use s10_test_help::expect::same;
 use s10_wire::WireFault;
@@ -168,7 +169,7 @@ fn is_left<B: Book>(alloc: Global, book: &mut B, left: Option<Left>) -> bool {
         return true;
     };
     let mut out = Vec::new(alloc);
-    write_ranges(book, 20_000, &mut out) == Ok(())
+    write_ranges(book, &ALL_RANGES, ReportFormat::Lines, 20_000, &mut out) == Ok(())
         && out.as_slice() == ranges
         && book.len() == calls
 }

@@ -5,6 +5,7 @@ use s10_ends::Server;
 use s10_history::Settings;
 use s10_jobs::{ClockDays, JobStatus, Report, ReportKind, write_report};
 use s10_lines::WriteFault;
+use s10_reports::{IssueFilter, IssuesReport, RangeFilter, ReportFormat};
 use s10_test_help::expect::{holds, is_text};
 use s10_test_help::hiccup::Hiccup;
 use s10_test_help::refusing::Refusing;
@@ -84,20 +85,87 @@ fn is_done<R: Abort + Eprint + AllocGlobal>(rt: &R, book: PlainBook, report: Rep
     );
 }
 
-/// The kind of a report, and its text.
-const REPORTS: &[(ReportKind, &str)] = &[
-    (ReportKind::Ranges, RANGES),
-    (ReportKind::Issues, ISSUES),
-    (ReportKind::Info, INFO),
+/// What is asked for: ranges or issuances, all but for a filter, or the whole ledger.
+#[derive(Clone, Copy, Debug)]
+enum Asked {
+    Ranges,
+    RangesOf8,
+    Records,
+    Issues,
+    Info,
+}
+
+fn ranges(customer: Option<u32>, format: ReportFormat) -> ReportKind {
+    ReportKind::Ranges {
+        filter: RangeFilter {
+            customer,
+            range: None,
+            id: None,
+        },
+        format,
+    }
+}
+
+fn every_issue() -> IssuesReport {
+    IssuesReport {
+        filter: IssueFilter {
+            customer: None,
+            range: None,
+            id: None,
+            from_day: None,
+            to_day: None,
+        },
+        format: ReportFormat::Lines,
+    }
+}
+
+fn kind_of(asked: Asked) -> ReportKind {
+    match asked {
+        Asked::Ranges => ranges(None, ReportFormat::Lines),
+        Asked::RangesOf8 => ranges(Some(8), ReportFormat::Lines),
+        Asked::Records => ranges(None, ReportFormat::Csv),
+        Asked::Issues => ReportKind::Issues(every_issue()),
+        Asked::Info => ReportKind::Info,
+    }
+}
+
+/// Returns the report that is asked for, on a day.
+fn report_on(asked: Asked, day: u32) -> Report {
+    match kind_of(asked) {
+        ReportKind::Ranges { filter, format } => Report::Ranges {
+            filter,
+            format,
+            day,
+        },
+        ReportKind::Issues(issues) => Report::Issues(issues),
+        ReportKind::Info => Report::Info { day },
+    }
+}
+
+/// Returns the report that is asked for, on the day that is given or on the clock's.
+fn report_by<R: Clock>(rt: &R, asked: Asked, day: Option<u32>) -> Option<Report> {
+    Report::new(&mut ClockDays { clock: rt }, kind_of(asked), day)
+}
+
+const NO_RANGES: &str = "range customer service country first last used voided free\n";
+
+const RECORDS: &str = "range,customer,service,country,first,last,used,voided,free,closed,day,date\r
+1,7,RA,GB,00000000,00000002,1,0,2,no,20000,2024-10-04\r
+";
+
+/// A report on day 20000, and its text.
+const REPORTS: &[(Asked, &str)] = &[
+    (Asked::Ranges, RANGES),
+    (Asked::RangesOf8, NO_RANGES),
+    (Asked::Records, RECORDS),
+    (Asked::Issues, ISSUES),
+    (Asked::Info, INFO),
 ];
 
 #[test]
 fn reports_are_written_whole(rt: HostRuntime) {
-    for (kind, text) in REPORTS {
-        let report = Report::new(&mut ClockDays { clock: &rt }, *kind, Some(20_000)).expect(
-            &rt, "a day",
-        );
-        is_done(&rt, one_issue(rt.alloc()), report, text);
+    for (asked, text) in REPORTS {
+        is_done(&rt, one_issue(rt.alloc()), report_on(*asked, 20_000), text);
     }
 }
 
@@ -110,51 +178,58 @@ fn one_withdrawn(alloc: Global) -> PlainBook {
 }
 
 /// Reports of a withdrawn range, and their texts.
-const WITHDRAWN: &[(Report, &str)] = &[
-    (Report::Ranges { day: 20_000 }, RANGES_WITHDRAWN),
-    (Report::Issues, ISSUES),
-    (Report::Info { day: 20_000 }, INFO_WITHDRAWN),
+const WITHDRAWN: &[(Asked, &str)] = &[
+    (Asked::Ranges, RANGES_WITHDRAWN),
+    (Asked::Issues, ISSUES),
+    (Asked::Info, INFO_WITHDRAWN),
 ];
 
 #[test]
 fn a_withdrawn_range_is_reported_as_closed(rt: HostRuntime) {
-    for (report, text) in WITHDRAWN {
-        is_done(&rt, one_withdrawn(rt.alloc()), *report, text);
+    for (asked, text) in WITHDRAWN {
+        is_done(
+            &rt,
+            one_withdrawn(rt.alloc()),
+            report_on(*asked, 20_000),
+            text,
+        );
     }
 }
 
-/// Returns whether a report of this kind is the report with the day that is given, and has that of
-/// the clock if none is.
-fn has_its_day<R: Clock>(rt: &R, kind: ReportKind, report: Report) -> bool {
-    Report::new(&mut ClockDays { clock: rt }, kind, Some(7)) == Some(report)
-        && Report::new(&mut ClockDays { clock: rt }, kind, None).is_some()
+/// Returns whether a report is the report with the day that is given, and has that of the clock if
+/// none is.
+fn has_its_day<R: Clock>(rt: &R, asked: Asked) -> bool {
+    report_by(rt, asked, Some(7)) == Some(report_on(asked, 7))
+        && report_by(rt, asked, None).is_some()
 }
 
 /// Returns whether a report of issues has no day.
 fn has_no_day<R: Clock>(rt: &R) -> bool {
-    let kind = ReportKind::Issues;
-    Report::new(&mut ClockDays { clock: rt }, kind, Some(7)) == Some(Report::Issues)
-        && Report::new(&mut ClockDays { clock: rt }, kind, None) == Some(Report::Issues)
+    is_without_day(rt, Some(7)) && is_without_day(rt, None)
+}
+
+fn is_without_day<R: Clock>(rt: &R, day: Option<u32>) -> bool {
+    report_by(rt, Asked::Issues, day) == Some(Report::Issues(every_issue()))
 }
 
 #[test]
 fn a_report_has_the_day_that_is_given(rt: HostRuntime) {
-    assert!(rt; has_its_day(&rt, ReportKind::Ranges, Report::Ranges { day: 7 }));
-    assert!(rt; has_its_day(&rt, ReportKind::Info, Report::Info { day: 7 }));
+    assert!(rt; has_its_day(&rt, Asked::Ranges));
+    assert!(rt; has_its_day(&rt, Asked::Info));
     assert!(rt; has_no_day(&rt));
 }
 
 /// Reports of a book that fails, and their texts.
-const FAULTED: &[(Report, &str)] = &[
+const FAULTED: &[(Asked, &str)] = &[
     (
-        Report::Ranges { day: 20_000 },
+        Asked::Ranges,
         "range customer service country first last used voided free\nfaulted store\n",
     ),
     (
-        Report::Issues,
+        Asked::Issues,
         "arrival day customer number identifier state\nfaulted store\n",
     ),
-    (Report::Info { day: 20_000 }, "faulted store\n"),
+    (Asked::Info, "faulted store\n"),
 ];
 
 /// Returns whether a report of a book that fails at its first call prints this text.
@@ -165,14 +240,15 @@ fn prints_fault(alloc: Global, report: Report, text: &str) -> bool {
 
 #[test]
 fn a_fault_of_the_book_ends_a_report(rt: HostRuntime) {
-    for (report, text) in FAULTED {
-        assert!(rt; holds(&rt, text, prints_fault(rt.alloc(), *report, text)));
+    for (asked, text) in FAULTED {
+        let report = report_on(*asked, 20_000);
+        assert!(rt; holds(&rt, text, prints_fault(rt.alloc(), report, text)));
     }
 }
 
 /// Writes a report of issues.
 fn written<W: Write>(alloc: Global, out: &mut W) -> Result<JobStatus, WriteFault> {
-    write_report(&mut one_issue(alloc), Report::Issues, out)
+    write_report(&mut one_issue(alloc), Report::Issues(every_issue()), out)
 }
 
 /// Returns whether a report ends with the line `output` if its first bytes are refused.
