@@ -51,6 +51,10 @@ echo "a Draw over the last of 1,001 ranges, the others of another holder: $(each
 { cat "$dir/used"; draws 1 401; } >"$dir/used_drawn"
 echo "one Draw that finds 400 used ranges of its customer first: $(each 1 "$dir/used" "$dir/used_drawn")"
 
+{ grants 10000 1 7 0 1; grants 1 10001 7 1000000 10; draws 10000 1; } >"$dir/many_used"
+{ cat "$dir/many_used"; draws 1 10001; } >"$dir/many_used_drawn"
+echo "one Draw that finds 10,000 used ranges of its customer first: $(each 1 "$dir/many_used" "$dir/many_used_drawn")"
+
 : >"$dir/nothing"
 grants 1000 1 7 0 10 >"$dir/granted"
 echo "a Grant, of a thousand: $(each 1000 "$dir/nothing" "$dir/granted")"
