@@ -19,4 +19,5 @@ mod reads;
 mod reports;
 mod successive_draws;
 mod trips;
+mod used_ranges;
 mod withdrawals;

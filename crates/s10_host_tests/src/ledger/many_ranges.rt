@@ -85,6 +85,7 @@ fn range_is_alike<A: Book, B: Book>(one: &mut A, other: &mut B, place: u32) -> b
     one.range(place) == other.range(place)
         && one.covering(&span) == other.covering(&span)
         && one.next_range(&held, place) == other.next_range(&held, place)
+        && one.next_free_range(&held, place, 20_015) == other.next_free_range(&held, place, 20_015)
 }
 
 fn ranges_are_alike<A: Book, B: Book>(one: &mut A, other: &mut B, ranges: u32) -> bool
