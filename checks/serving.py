@@ -52,10 +52,11 @@ def ask(link, datagram):
 
 
 @contextlib.contextmanager
-def serving(ledger):
-    """Yields the address of a server on a new ledger, in which customer 7 has a range of all serials."""
+def serving(ledger, *options, days=("--day", "20000")):
+    """Yields the address of a server on a new ledger, in which customer 7 has a range of all serials. Its days are those of `days`, and
+    it has the options."""
     subprocess.run([PROGRAM, "create", "--ledger", ledger, "--interval", "30", "--limit", "10000000"], check=True, stdout=subprocess.DEVNULL)
-    words = [PROGRAM, "serve", "--ledger", ledger, "--bind", "127.0.0.1:0", "--count", "4294967295", "--day", "20000"]
+    words = [PROGRAM, "serve", "--ledger", ledger, "--bind", "127.0.0.1:0", "--count", "4294967295", *days, *options]
     with subprocess.Popen(words, stdout=subprocess.DEVNULL, stderr=subprocess.PIPE, text=True) as server:
         address = next(line.split()[-1] for line in server.stderr if line.startswith("serving on "))
         with link_to(address) as link:
