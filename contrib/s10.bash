@@ -3,13 +3,13 @@ _s10() {
     local word=${COMP_WORDS[COMP_CWORD]} before=${COMP_WORDS[COMP_CWORD - 1]} options values files one
     COMPREPLY=()
     if ((COMP_CWORD == 1)); then
-        options='check make show replay create serve grant draw void query withdraw notes again report info audit loop help'
+        options='check make show replay create serve grant draw void query withdraw notes again report info audit copy loop help'
         [[ $word != -* ]] || options='--help --version'
         mapfile -t COMPREPLY < <(compgen -W "$options" -- "$word")
         return
     fi
     case ${COMP_WORDS[1]} in
-        help) ((COMP_CWORD == 2)) && mapfile -t COMPREPLY < <(compgen -W 'check make show replay create serve grant draw void query withdraw notes again report info audit loop' -- "$word")
+        help) ((COMP_CWORD == 2)) && mapfile -t COMPREPLY < <(compgen -W 'check make show replay create serve grant draw void query withdraw notes again report info audit copy loop' -- "$word")
             return ;;
         check) options='--label --help' values='' files='' ;;
         make) options='--help' values='' files='' ;;
@@ -24,9 +24,10 @@ _s10() {
         withdraw) options='--to --number --notes --range --tries --help' values='--to --number --range --tries' files='--notes' ;;
         notes) options='--file --customer --first --last --help' values='--customer --first --last' files='--file' ;;
         again) options='--to --notes --tries --help' values='--to --tries' files='--notes' ;;
-        report) options='--ledger --issues --day --help' values='--day' files='--ledger' ;;
-        info) options='--ledger --day --help' values='--day' files='--ledger' ;;
-        audit) options='--ledger --help' values='' files='--ledger' ;;
+        report) options='--ledger --snapshot --issues --csv --customer --range --id --from-day --to-day --day --help' values='--customer --range --id --from-day --to-day --day' files='--ledger' ;;
+        info) options='--ledger --snapshot --day --help' values='--day' files='--ledger' ;;
+        audit) options='--ledger --snapshot --help' values='' files='--ledger' ;;
+        copy) options='--ledger --to --help' values='' files='--ledger --to' ;;
         loop) options='--day --help' values='--day' files='' ;;
         *) return ;;
     esac

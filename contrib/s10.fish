@@ -32,6 +32,8 @@ complete -c s10 -n __fish_use_subcommand -a info -d 'Report the settings and the
 complete -c s10 -n '__fish_seen_subcommand_from help; and test (count (commandline -opc)) -eq 2' -a info -d 'Report the settings and the totals of the ledger in a file'
 complete -c s10 -n __fish_use_subcommand -a audit -d 'Check the ledger in a file against the rules, from its first request to its last'
 complete -c s10 -n '__fish_seen_subcommand_from help; and test (count (commandline -opc)) -eq 2' -a audit -d 'Check the ledger in a file against the rules, from its first request to its last'
+complete -c s10 -n __fish_use_subcommand -a copy -d 'Copy the ledger in a file, also while it is served, and check the copy against the rules'
+complete -c s10 -n '__fish_seen_subcommand_from help; and test (count (commandline -opc)) -eq 2' -a copy -d 'Copy the ledger in a file, also while it is served, and check the copy against the rules'
 complete -c s10 -n __fish_use_subcommand -a loop -d 'Show a server and its customers on this machine, over real sockets'
 complete -c s10 -n '__fish_seen_subcommand_from help; and test (count (commandline -opc)) -eq 2' -a loop -d 'Show a server and its customers on this machine, over real sockets'
 complete -c s10 -n __fish_use_subcommand -a help -d 'Print this message or the help of the given subcommand(s)'
@@ -116,15 +118,29 @@ complete -c s10 -n '__fish_seen_subcommand_from again; and test (commandline -op
 complete -c s10 -n '__fish_seen_subcommand_from again; and test (commandline -opc)[2] = again; and not __fish_contains_opt help' -s h -l help -d 'Print help'
 complete -c s10 -n '__fish_seen_subcommand_from report; and test (commandline -opc)[2] = report; and not __fish_contains_opt ledger' -l ledger -x -d 'The file that keeps the ledger: an SQLite database'
 complete -c s10 -n '__fish_seen_subcommand_from report; and test (commandline -opc)[-1] = --ledger' -F
+complete -c s10 -n '__fish_seen_subcommand_from report; and test (commandline -opc)[2] = report; and not __fish_contains_opt snapshot' -l snapshot -d 'Read the ledger into memory, without locking or changing it, also while it is served'
 complete -c s10 -n '__fish_seen_subcommand_from report; and test (commandline -opc)[2] = report; and not __fish_contains_opt issues' -l issues -d 'Report the identifiers issued instead of the ranges'
+complete -c s10 -n '__fish_seen_subcommand_from report; and test (commandline -opc)[2] = report; and not __fish_contains_opt csv' -l csv -d 'Write records with commas (RFC 4180), with each day also as a date'
+complete -c s10 -n '__fish_seen_subcommand_from report; and test (commandline -opc)[2] = report; and not __fish_contains_opt customer' -l customer -x -d 'Only the ranges of this customer, or the identifiers that it drew'
+complete -c s10 -n '__fish_seen_subcommand_from report; and test (commandline -opc)[2] = report; and not __fish_contains_opt range' -l range -x -d 'Only the range with this number, or the identifiers in it'
+complete -c s10 -n '__fish_seen_subcommand_from report; and test (commandline -opc)[2] = report; and not __fish_contains_opt id' -l id -x -d 'Only the range of this identifier, or its issues; spaces and small letters are read as on a label'
+complete -c s10 -n '__fish_seen_subcommand_from report; and test (commandline -opc)[2] = report; and not __fish_contains_opt from-day' -l from-day -x -d 'Only the identifiers issued on this day or later; reports identifiers, as --issues does'
+complete -c s10 -n '__fish_seen_subcommand_from report; and test (commandline -opc)[2] = report; and not __fish_contains_opt to-day' -l to-day -x -d 'Only the identifiers issued on this day or earlier; reports identifiers, as --issues does'
 complete -c s10 -n '__fish_seen_subcommand_from report; and test (commandline -opc)[2] = report; and not __fish_contains_opt day' -l day -x -d 'The day on which serial numbers are counted as free; by default the clock\'s day'
 complete -c s10 -n '__fish_seen_subcommand_from report; and test (commandline -opc)[2] = report; and not __fish_contains_opt help' -s h -l help -d 'Print help'
 complete -c s10 -n '__fish_seen_subcommand_from info; and test (commandline -opc)[2] = info; and not __fish_contains_opt ledger' -l ledger -x -d 'The file that keeps the ledger: an SQLite database'
 complete -c s10 -n '__fish_seen_subcommand_from info; and test (commandline -opc)[-1] = --ledger' -F
+complete -c s10 -n '__fish_seen_subcommand_from info; and test (commandline -opc)[2] = info; and not __fish_contains_opt snapshot' -l snapshot -d 'Read the ledger into memory, without locking or changing it, also while it is served'
 complete -c s10 -n '__fish_seen_subcommand_from info; and test (commandline -opc)[2] = info; and not __fish_contains_opt day' -l day -x -d 'The day on which serial numbers are counted as free; by default the clock\'s day'
 complete -c s10 -n '__fish_seen_subcommand_from info; and test (commandline -opc)[2] = info; and not __fish_contains_opt help' -s h -l help -d 'Print help'
 complete -c s10 -n '__fish_seen_subcommand_from audit; and test (commandline -opc)[2] = audit; and not __fish_contains_opt ledger' -l ledger -x -d 'The file that keeps the ledger: an SQLite database'
 complete -c s10 -n '__fish_seen_subcommand_from audit; and test (commandline -opc)[-1] = --ledger' -F
+complete -c s10 -n '__fish_seen_subcommand_from audit; and test (commandline -opc)[2] = audit; and not __fish_contains_opt snapshot' -l snapshot -d 'Read the ledger into memory, without locking or changing it, also while it is served'
 complete -c s10 -n '__fish_seen_subcommand_from audit; and test (commandline -opc)[2] = audit; and not __fish_contains_opt help' -s h -l help -d 'Print help'
+complete -c s10 -n '__fish_seen_subcommand_from copy; and test (commandline -opc)[2] = copy; and not __fish_contains_opt ledger' -l ledger -x -d 'The file that keeps the ledger: an SQLite database'
+complete -c s10 -n '__fish_seen_subcommand_from copy; and test (commandline -opc)[-1] = --ledger' -F
+complete -c s10 -n '__fish_seen_subcommand_from copy; and test (commandline -opc)[2] = copy; and not __fish_contains_opt to' -l to -x -d 'The file of the copy, which must not exist'
+complete -c s10 -n '__fish_seen_subcommand_from copy; and test (commandline -opc)[-1] = --to' -F
+complete -c s10 -n '__fish_seen_subcommand_from copy; and test (commandline -opc)[2] = copy; and not __fish_contains_opt help' -s h -l help -d 'Print help'
 complete -c s10 -n '__fish_seen_subcommand_from loop; and test (commandline -opc)[2] = loop; and not __fish_contains_opt day' -l day -x -d 'The day of the requests; by default the clock\'s day'
 complete -c s10 -n '__fish_seen_subcommand_from loop; and test (commandline -opc)[2] = loop; and not __fish_contains_opt help' -s h -l help -d 'Print help'

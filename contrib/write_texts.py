@@ -14,7 +14,7 @@ from pathlib import Path
 from typing import NamedTuple
 
 # The day of each version, for the foot of the man page.
-DAYS = {"0.1.0": "2026-11-23"}
+DAYS = {"0.1.0": "2026-11-23", "0.2.0": "2026-11-29"}
 
 # The values that are names of files. All others are free text.
 FILES = {"FILE"}

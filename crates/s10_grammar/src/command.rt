@@ -26,7 +26,7 @@ use clap::{ArgMatches, Command, Error};
 use std::alloc::{AllocError, Global};
 use std::convert::AsStr;
 
-const VERSION: &str = "0.1.0";
+const VERSION: &str = "0.2.0";
 
 const STATUSES: &str = "\
 Exit status: 0 done; 1 a text, an input line or, by a rule, a request is refused; 2 the words are no
