@@ -9,3 +9,5 @@ pub mod IssueLemmas
 pub mod Voiding
 pub mod WrittenLemmas
 pub mod Rested
+pub mod Identifiers
+pub mod SerialLookups

@@ -3,23 +3,25 @@ use Rattle.std.specs.Prelude.{◌≡◌, ◌≤◌, ◌<◌, List, length}
 use Rattle.std.specs.HashMap.{hasher_of, spare}
 use Rattle.std.specs.HashSet.{hasher_of as seed_of}
 use Rattle.s10_history.specs.declared.entry.Entry.{Entry}
-use Rattle.s10_history.specs.Issues.{carried_by}
+use Rattle.s10_history.specs.Issues.{carried_by, issues_of}
 use Rattle.s10_ranges.specs.declared.hash_seed.HashSeed.{HashSeed}
 use Rattle.s10_ranges.specs.Mirror.{Mirrors}
 use Rattle.s10_ranges.specs.Rests.{AreRests, HasRoomForRest}
 use Rattle.s10_ranges.specs.Room.{HasRoom}
 use Rattle.s10_index.specs.declared.call_index.CallIndex.{CallIndex}
 use Rattle.s10_index.specs.Positions.{HasPositions}
-use Rattle.s10_index.specs.LastIssues.{HasIssues}
+use Rattle.s10_index.specs.LastIssues.{HasIssues, HaveIds, HasOneEach}
 
 -- An index holds a history if it has its calls with the index of each, its ranges with their marks
--- and rests, and the last issue of each identifier.
+-- and rests, and the last issue of each identifier. The identifiers that were issued are valid.
 pub record Indexes (index : CallIndex) (h : List Entry) : Type 0 where
   pub calls : index.entries.items ≡ h
   pub ranges : Mirrors index.ranges h
   pub rests : AreRests h index.rests.list.items
   pub positions : HasPositions index.positions h
   pub issues : HasIssues index.issues h
+  pub ids : HaveIds (issues_of h)
+  pub identifiers : HasOneEach index.issues (issues_of h)
 
 -- Memory is reserved for the call and for all that it records.
 pub record HasRoomFor (index : CallIndex) (e : Entry) : Type 0 where

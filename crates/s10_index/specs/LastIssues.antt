@@ -1,13 +1,14 @@
 -- Defines the map of the last issue of each identifier.
-use Rattle.std.specs.Prelude.{◌≡◌, Bool, List, Some, if◌then◌else◌, true}
+use Rattle.std.specs.Prelude.{◌≡◌, Bool, List, Some, if◌then◌else◌, true, length, All}
 use Rattle.std.specs.Option.{option_map}
-use Rattle.std.specs.HashMap.{HashMap, get}
+use Rattle.std.specs.HashMap.{HashMap, get, hash_map_len}
 use Rattle.s10_core.specs.declared.id.Id.{Id}
 use Rattle.s10_core.specs.Id.{IsId}
 use Rattle.s10_history.specs.declared.entry.Entry.{Entry}
 use Rattle.s10_history.specs.declared.issue.Issue.{Issue}
 use Rattle.s10_history.specs.declared.issuance.Issuance.{Issuance}
-use Rattle.s10_history.specs.Issues.{last_issuance_of, last_issue_of, voided_after}
+use Rattle.s10_history.specs.Issues.{last_issues, last_issuance_of, last_issue_of}
+use Rattle.s10_history.specs.Issues.{voided_after}
 use Rattle.s10_index.specs.declared.id_key.IdKey.{IdKey}
 use Rattle.s10_index.specs.Keys.{same_id_key, id_key}
 
@@ -50,3 +51,11 @@ abbrev pub RecordsVoid : {S : Type 0} → IdKey → HashMap IdKey Issue S → Ha
     → Type 0
 RecordsVoid key old new = (q : IdKey) → get same_id_key new q
     ≡ (if same_id_key key q then option_map as_voided (get same_id_key old q) else get same_id_key old q)
+
+-- Each issuance is of a valid identifier.
+abbrev pub HaveIds : List Issuance → Type 0
+HaveIds is = All (λ i. IsId i.id) is
+
+-- The map has one key per identifier of these issuances.
+abbrev pub HasOneEach : {S : Type 0} → HashMap IdKey Issue S → List Issuance → Type 0
+HasOneEach issues is = hash_map_len issues ≡ length (last_issues is)

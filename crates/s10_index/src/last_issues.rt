@@ -1,7 +1,8 @@
 //! The last issue of each identifier.
 
 ghost use Rattle.std.specs.Prelude.{◌≡◌, ◌<◌, ◌≤◌, ◌+◌, ◌++◌, ◌∷◌, [], List, length, false};
-ghost use Rattle.std.specs.HashMap.{get, spare};
+ghost use Rattle.std.specs.Prelude.{if◌then◌else◌, is_some};
+ghost use Rattle.std.specs.HashMap.{get, spare, hash_map_len};
 ghost use Rattle.s10_core.specs.Id.{IsId};
 ghost use Rattle.s10_history.specs.declared.entry.Entry.{Entry};
 ghost use Rattle.s10_history.specs.Settings.{Terms};
@@ -9,7 +10,7 @@ ghost use Rattle.s10_history.specs.Issues.{issues_of, carried_by};
 ghost use Rattle.s10_book.specs.Rules.{IsLegal};
 ghost use Rattle.s10_index.specs.Keys.{same_id_key, id_key};
 ghost use Rattle.s10_index.specs.LastIssues.{HasIssues, HasLast, RecordsIssue, RecordsVoid};
-ghost use Rattle.s10_index.specs.LastIssues.{as_issue};
+ghost use Rattle.s10_index.specs.LastIssues.{as_issue, HaveIds, HasOneEach};
 
 use crate::id_key::IdKey;
 use s10_core::Id;
@@ -28,8 +29,13 @@ pub(crate) fn recorded_issue(issues: &HashMap<IdKey, Issue, HashSeed>, id: &Id) 
 // Records what the call issued or voided, in memory reserved for all its issuances.
 pub(crate) fn record_call(issues: &mut HashMap<IdKey, Issue, HashSeed>, entry: &Entry)
     requires room { length (carried_by entry.now.outcome) ≤ spare issues.old }
-    ensures { (h : List Entry) (t : Terms) → IsLegal h t → HasIssues issues.old h
+    ensures issues { (h : List Entry) (t : Terms) → IsLegal h t → HasIssues issues.old h
         → HasIssues issues.new (h ++ entry.now ∷ []) }
+    ensures ids { (h : List Entry) → HaveIds (issues_of h)
+        → HaveIds (issues_of (h ++ entry.now ∷ [])) }
+    ensures count { (h : List Entry) (t : Terms) → IsLegal h t → HasIssues issues.old h
+        → HasOneEach issues.old (issues_of h)
+        → HasOneEach issues.new (issues_of (h ++ entry.now ∷ [])) }
 {
     match entry.outcome {
         Outcome::Voided => {
@@ -44,8 +50,13 @@ pub(crate) fn record_call(issues: &mut HashMap<IdKey, Issue, HashSeed>, entry: &
 // Records each issuance of the call, in memory reserved for all of them.
 fn record_issues(issues: &mut HashMap<IdKey, Issue, HashSeed>, entry: &Entry)
     requires room { length (carried_by entry.now.outcome) ≤ spare issues.old }
-    ensures { (h : List Entry) → HasLast issues.old (h ++ entry.now ∷ []) (issues_of h)
+    ensures recorded { (h : List Entry) → HasLast issues.old (h ++ entry.now ∷ []) (issues_of h)
         → HasLast issues.new (h ++ entry.now ∷ []) (issues_of (h ++ entry.now ∷ [])) }
+    ensures ids { (h : List Entry) → HaveIds (issues_of h)
+        → HaveIds (issues_of (h ++ entry.now ∷ [])) }
+    ensures count { (h : List Entry) → HasLast issues.old (h ++ entry.now ∷ []) (issues_of h)
+        → HasOneEach issues.old (issues_of h)
+        → HasOneEach issues.new (issues_of (h ++ entry.now ∷ [])) }
 {
     for place in 0..entry.issued() {
         // An issue has no arrival, so 0 will do.
@@ -60,6 +71,8 @@ fn record_issue(issues: &mut HashMap<IdKey, Issue, HashSeed>, issuance: &Issuanc
     requires room { 0 < spare issues.old }
     ensures recorded { RecordsIssue (id_key issuance.now.id) (as_issue issuance.now false)
         issues.old issues.new }
+    ensures count { hash_map_len issues.new ≡ hash_map_len issues.old
+        + (if is_some (get same_id_key issues.old (id_key issuance.now.id)) then 0 else 1) }
     ensures spare { spare issues.old ≤ spare issues.new + 1 }
     ensures parts { IsId issuance.now.id }
 {
@@ -74,6 +87,7 @@ fn record_issue(issues: &mut HashMap<IdKey, Issue, HashSeed>, issuance: &Issuanc
 
 fn record_void(issues: &mut HashMap<IdKey, Issue, HashSeed>, id: &Id)
     ensures voids { RecordsVoid (id_key id.now) issues.old issues.new }
+    ensures count { hash_map_len issues.new ≡ hash_map_len issues.old }
     ensures parts { IsId id.now }
 {
     if let Some(issue) = issues.get_mut(&IdKey::of(id)) {

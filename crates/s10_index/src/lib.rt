@@ -13,6 +13,7 @@ mod indexed_book;
 mod issue_writes;
 mod last_issues;
 mod positions;
+mod row_id;
 mod row_writes;
 mod rows;
 

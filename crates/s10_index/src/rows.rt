@@ -1,7 +1,7 @@
 //! The derived rows of a book's history.
 
 ghost use Rattle.std.specs.Prelude.{◌≡◌, ◌++◌, ◌∷◌, ◌+◌, ◌<◌, ◌≤◌, List, IfOk, OnOk, Some, drop};
-ghost use Rattle.std.specs.Prelude.{slice_get, option_to_list};
+ghost use Rattle.std.specs.Prelude.{◌↔◌, IsTrue, Contains, length, slice_get, option_to_list};
 ghost use Rattle.s10_history.specs.declared.entry.Entry.{Entry};
 ghost use Rattle.s10_history.specs.declared.issuance.Issuance.{Issuance};
 ghost use Rattle.s10_history.specs.Settings.{Terms};
@@ -10,12 +10,14 @@ ghost use Rattle.s10_book.specs.Rules.{IsLegal};
 ghost use Rattle.s10_rows.specs.Tables.{closing, closed_rows, closed_rows_from, range_rows};
 ghost use Rattle.s10_rows.specs.Tables.{serial_rows};
 ghost use Rattle.s10_index.specs.LastIssues.{HasIssues};
-ghost use Rattle.s10_index.specs.RowsFrom.{last_rows, serial_rows_from};
+ghost use Rattle.s10_index.specs.RowsFrom.{last_rows, serial_rows_from, serial_row_of};
 
 use crate::id_key::IdKey;
 use crate::indexed_book::IndexedBook;
 use crate::last_issues::recorded_issue;
+use crate::row_id::id_in;
 use s10_book::Book;
+use s10_core::Id;
 use s10_history::{Entry, Issuance, Issue};
 use s10_ranges::HashSeed;
 use s10_rows::{ClosedRow, RangeRow, SerialRow};
@@ -96,6 +98,37 @@ impl IndexedBook {
             push_rows(&mut rows, &self.index.issues, &entry, place)?;
         }
         Ok(rows)
+    }
+
+    // Returns the row of the identifier, or `None` if it was never issued.
+    fn serial_row(&self, id: &Id) -> Option<SerialRow>
+        ensures { result ≡ serial_row_of self.now.index.entries.items id.now }
+    {
+        // Brings len() <= MAX_LIMIT into scope.
+        let _len = self.len();
+        let issue = self.index.last_issue(id)?;
+        let issuance = self.index.last_issuance(id)?;
+        Some(SerialRow::of(&issuance, issue.voided))
+    }
+
+    /// Returns whether the history has exactly this row of `serials`.
+    pub fn has_serial_row(&self, row: &SerialRow) -> bool
+        ensures { IsTrue result ↔ Contains (serial_rows self.now.index.entries.items) row.now }
+    {
+        let Some(id) = id_in(row) else {
+            return false;
+        };
+        match self.serial_row(&id) {
+            None => false,
+            Some(made) => made == *row,
+        }
+    }
+
+    /// Returns the number of rows of `serials` of the history.
+    pub fn serial_count(&self) -> usize
+        ensures { result ≡ length (serial_rows self.now.index.entries.items) }
+    {
+        self.index.issues.len()
     }
 
     /// Returns the rows of `closed`, in order of the calls that closed them.

@@ -14,7 +14,9 @@ returns-clause-followed c h t legal follows moves was =
       rests = c.follow-2.ensures h t legal follows was.rests;
       positions = c.record_position.ensures h was.positions (c.len-place.ensures
           ∙ ap length (c.calls.ensures ∙ was.calls)) follows.new_key;
-      issues = c.record_call.ensures h t legal was.issues;
+      issues = c.record_call.ensures.issues h t legal was.issues;
+      ids = c.record_call.ensures.ids h was.ids;
+      identifiers = c.record_call.ensures.count h t legal was.issues was.identifiers;
     })
 
 pub invariant_of-self : goal.invariant_of-self

@@ -11,6 +11,8 @@ returns-in_err-reserve-4-clause-same c h was = record {
       c.reserve-3.ensures.entries was.positions;
   issues = issues_still c.args.self.now.issues c.reserve-4.new.self h c.reserve-4.ensures.entries
       was.issues;
+  ids = was.ids;
+  identifiers = c.reserve-4.ensures.entries.1 ∙ was.identifiers;
 }
 
 pub returns-clause-same : goal.returns-clause-same
@@ -22,4 +24,6 @@ returns-clause-same c h was = record {
       c.reserve-3.ensures.entries was.positions;
   issues = issues_still c.args.self.now.issues c.reserve-4.new.self h c.reserve-4.ensures.entries
       was.issues;
+  ids = was.ids;
+  identifiers = c.reserve-4.ensures.entries.1 ∙ was.identifiers;
 }

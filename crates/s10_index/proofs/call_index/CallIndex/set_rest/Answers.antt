@@ -15,4 +15,6 @@ returns-in-Some-clause-same c h was =
           (subst (IsRestOf h r) (sym (c.rest-rest.ensures h was own.0)) (rest_is h r));
       positions = was.positions;
       issues = was.issues;
+      ids = was.ids;
+      identifiers = was.identifiers;
     }
