@@ -14,3 +14,5 @@ pub mod RefusalLemmas
 pub mod FaultLemmas
 pub mod ReplayedBookLemmas
 pub mod ReplayFaults
+pub mod CallReplayLemmas
+pub mod SerialMatchLemmas

@@ -1,7 +1,6 @@
 -- What is found of the tables, once they are completed.
-use Rattle.std.proofs.Common.{◌≡◌, ℕ, ◌⊎◌, inl, inr, IsTrue, List, [], ◌∷◌, map, length, refl, sym}
+use Rattle.std.proofs.Common.{◌≡◌, ◌⊎◌, inl, inr, IsTrue, List, [], ◌∷◌, map, length, refl, sym}
 use Rattle.std.proofs.Common.{ap, subst, ◌∙◌, arith}
-use Rattle.std.proofs.lemmas.List.{length-map}
 use Rattle.sqlite_trees.specs.Tree.{Trees}
 use Rattle.sqlite_trees.specs.declared.store.Store.{Ghosts}
 use Rattle.sqlite.specs.Effect.{Database}
@@ -16,7 +15,7 @@ use Rattle.s10_index.specs.CallIndex.{Indexes}
 use Rattle.s10_rows.specs.declared.open_fault.OpenFault.{OpenFault}
 use Rattle.s10_rows.specs.declared.open_fault.OpenFault.TheVariants.{Memory, Store}
 use Rattle.s10_rows.specs.Tables.{Tables, HaveSameRows, tables_of}
-use Rattle.s10_replay.specs.RightRows.{kept_of, entry_of}
+use Rattle.s10_replay.specs.RightRows.{kept_of}
 use Rattle.s10_replay.specs.CheckedTables.{IsConsistent}
 use Rattle.s10_replay.proofs.SameRows.{same_length}
 use Rattle.s10_replay.proofs.Compared.{right_calls}

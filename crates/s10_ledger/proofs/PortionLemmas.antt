@@ -1,5 +1,5 @@
 -- How the first of the pending calls are committed.
-use Rattle.std.proofs.Common.{◌≡◌, ℕ, zero, suc, ◌-◌, ◌≤◌, ◌⊎◌, inl, inr, ⊎_elim, length, List, [], ◌∷◌}
+use Rattle.std.proofs.Common.{◌≡◌, ℕ, zero, suc, ◌-◌, ◌⊎◌, inl, inr, ⊎_elim, length, List, [], ◌∷◌}
 use Rattle.std.proofs.Common.{◌++◌, All, Result, Ok, Err, drop}
 use Rattle.std.proofs.Common.{OnOk, OnErr, IsTrue, Bool, sym, ap, subst, refl, ◌∙◌, arith, take}
 use Rattle.std.proofs.Common.{length-append, take_all}

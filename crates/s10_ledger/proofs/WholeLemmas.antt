@@ -1,16 +1,15 @@
 -- Consistent rows stand for the history that they keep.
 use Rattle.std.proofs.Common.{◌≡◌, ℕ, zero, suc, ◌+◌, ◌≤◌, List, [], ◌∷◌, ◌++◌, length, map}
-use Rattle.std.proofs.Common.{get_or, take, Some, Result, Ok, Err, IfOk, refl, sym, ap, subst, ◌∙◌}
+use Rattle.std.proofs.Common.{get_or, take, Some, refl, sym, ap, subst, ◌∙◌}
 use Rattle.std.proofs.Common.{inr, arith}
 use Rattle.std.specs.Prelude.{slice_get, All}
 use Rattle.std.proofs.Math.Logic.{∥∥₁_elim, ∥∥₁_map, ∥∥₁_prop}
-use Rattle.std.proofs.lemmas.List.{take_more, take_all, map-append, length-map}
+use Rattle.std.proofs.lemmas.List.{take_more, take_all, map-append}
 use Rattle.std.proofs.lemmas.List.Sorted.{IsPermutation-map, IsPermutation-trans}
 use Rattle.sqlite_value.specs.Order.{Row}
 use Rattle.sqlite.specs.Effect.{Database}
 use Rattle.s10_history.specs.declared.entry.Entry.{Entry}
 use Rattle.s10_history.specs.Settings.{Terms}
-use Rattle.s10_history.specs.declared.settings.TheConstants.{MAX_LIMIT}
 use Rattle.s10_history.specs.History.{day_of}
 use Rattle.s10_book.specs.Rules.{IsLegal}
 use Rattle.s10_book.proofs.Push.{IsLegal-push, IsLegal-nil}
@@ -30,9 +29,6 @@ use Rattle.s10_ledger.specs.declared.opening.table_layout.TableLayout.{TableLayo
 use Rattle.s10_ledger.specs.declared.opening.table_layout.TableLayout.TheVariants.{Whole, Old}
 use Rattle.s10_ledger.specs.TableLayout.{HasTableLayout}
 use Rattle.s10_ledger.specs.Refusals.{HasRows, IsOpeningRefusal}
-use Rattle.s10_index.specs.declared.call_index.CallIndex.{CallIndex}
-use Rattle.s10_index.specs.CallIndex.{Indexes}
-use Rattle.s10_ledger.specs.AllRows.{IsFound}
 use Rattle.s10_ledger.specs.Ledger.{IsLedger, history_in}
 use Rattle.s10_ledger.proofs.HistoryLemmas.{history_is, calls_history}
 use Rattle.s10_replay.proofs.Replayed.{kept_length}

@@ -5,4 +5,6 @@ pub mod Pending
 pub mod Faults
 pub mod Refusals
 pub mod Replaying
+pub mod CallReplay
+pub mod SerialMatch
 pub mod AllRows

@@ -1,8 +1,8 @@
 //! Opens the ledger of a connection.
 //!
-//! An opening reads the tables (`reading`), executes the calls again (`replaying`), compares the
-//! other tables with what results (`comparing`), and completes the tables of an earlier build
-//! (`completing`).
+//! An opening reads the tables (`reading`). While it reads, it executes the calls again
+//! (`call_replay`) and compares the rows of `serials` with what results (`serial_match`). Then it
+//! compares the other tables (`comparing`), and completes those of an earlier build (`completing`).
 
 ghost use Rattle.std.specs.Prelude.{◌≡◌, length, IfOk, IfErr, OnOk, OnErr, IsTrue};
 ghost use Rattle.s10_history.specs.History.{day_of};
@@ -17,10 +17,11 @@ ghost use Rattle.s10_ledger.specs.Ledger.{IsLedger, IsAnyLedger, IsIndexed, hist
 ghost use Rattle.s10_ledger.specs.Ledger.{MayComplete};
 ghost use Rattle.s10_ledger.specs.Refusals.{IsOpeningRefusal, HasSomeTableLayout};
 
+mod call_replay;
 mod comparing;
 mod completing;
 mod reading;
-mod replaying;
+mod serial_match;
 mod stored_rows;
 mod table_layout;
 

@@ -1,8 +1,8 @@
 -- The derived rows, and whether stored rows are the same.
 use Rattle.std.proofs.Common.{◌≡◌, Bool, true, false, cond, List, [], ◌∷◌, map, get_or, ℤ, ◌<ℤ◌}
 use Rattle.std.proofs.Common.{refl, sym, subst, IsPermutation, IsSorted, Ordering, Less}
-use Rattle.std.proofs.Common.{Equal, Greater, is_eq, arith}
-use Rattle.std.specs.Prelude.{All, ◌&&◌, ◌↔◌, IsTrue}
+use Rattle.std.proofs.Common.{Equal, Greater, is_eq, is_gt, arith}
+use Rattle.std.specs.Prelude.{All, Contains, ◌&&◌, ◌↔◌, ◌≢◌, IsTrue, length}
 use Rattle.std.specs.List.{list_any, AllByRecursion}
 use Rattle.std.specs.Cmp.{IsTotalOrder}
 use Rattle.std.specs.Bool.{Decides}
@@ -11,11 +11,13 @@ use Rattle.std.proofs.Math.Logic.{∥∥₁_elim, ∥∥₁_map, ∥∥₁_prop}
 use Rattle.std.proofs.Math.Bool.{So-prop}
 use Rattle.std.proofs.lemmas.Bool.{both_ways, or_parts, false_from_ne_true}
 use Rattle.std.proofs.lemmas.Bool.Decides.{Decides-and, Decides-like, Decides-int_eq}
-use Rattle.std.proofs.lemmas.Cmp.{int_ranked}
-use Rattle.std.proofs.lemmas.List.Elements.{All-head, All-tail, All-map}
+use Rattle.std.proofs.lemmas.Cmp.{int_ranked, on_total, then_total, int_cmp_total}
+use Rattle.std.proofs.lemmas.List.Elements.{All-head, All-tail, All-map, recursion_from_All}
+use Rattle.std.proofs.lemmas.List.Elements.{All-contains_itself}
 use Rattle.std.proofs.lemmas.List.Sorted.{IsPermutation-sym, IsPermutation-trans}
+use Rattle.std.proofs.lemmas.List.Sorted.{All-permutation, length_permutation}
 use Rattle.s10_replay.specs.Ascending.{IsAscending}
-use Rattle.s10_replay.proofs.Sorting.{sorted_unique, sorted_alike}
+use Rattle.s10_replay.proofs.Sorting.{sorted_unique, ordered_rises, rising_part, all_weaker}
 use Rattle.s10_core.specs.declared.id.Id.{Id}
 use Rattle.s10_history.specs.declared.entry.Entry.{Entry}
 use Rattle.s10_history.specs.declared.issuance.Issuance.{Issuance}
@@ -26,7 +28,7 @@ use Rattle.s10_rows.specs.declared.range_row.RangeRow.{RangeRow}
 use Rattle.s10_rows.specs.declared.serial_row.SerialRow.{SerialRow}
 use Rattle.s10_rows.specs.CallRow.{StoredCall}
 use Rattle.s10_core.specs.Pair.{pair_of}
-use Rattle.s10_rows.specs.Tables.{HaveSameRows, serial_row, serial_rows}
+use Rattle.s10_rows.specs.Tables.{HaveSameRows, serial_row, serial_row_cmp, serial_rows}
 use Rattle.s10_replay.specs.RightRows.{AreRight, kept_of, entry_of}
 use Rattle.s10_history.specs.Settings.{Terms}
 use Rattle.s10_rows.specs.Selected.{IsCall, IsIssuance}
@@ -53,44 +55,22 @@ same_where_sorted cmp total made rows copied sorted b up copy moved in_order sam
           in_order))),
     )
 
--- Two lists are equal when sorted exactly if they have the same rows, if the first has no ties.
-pub same_where_both_sorted : {X : Type 0} (cmp : X → X → Ordering) → IsTotalOrder cmp
-    → (apart made rows first second made' rows' : List X) (b : Bool)
-    → IsAscending (λ x y. is_eq (cmp x y) ≡ false) apart → HaveSameRows apart made → first ≡ made
-    → second ≡ rows
-    → IsPermutation first made' → IsSorted cmp made' → IsPermutation second rows'
-    → IsSorted cmp rows'
-    → (IsTrue b ↔ (made' ≡ rows')) → (IsTrue b ↔ HaveSameRows made rows)
-same_where_both_sorted cmp total apart made rows first second made' rows' b no_ties like one two
-    moved in_order moved' in_order' same =
-    let perm : IsPermutation made made' = subst (λ l. IsPermutation l made') one moved in
-    let perm' : IsPermutation rows rows' = subst (λ l. IsPermutation l rows') two moved' in (
-      λ t. ∣ IsPermutation-trans made made' rows perm (subst (λ l. IsPermutation l rows)
-          (sym (same.0 t)) (IsPermutation-sym rows rows' perm')) ∣₁,
-      λ h. ∥∥₁_elim like (So-prop b) (λ q. ∥∥₁_elim h (So-prop b) (λ p. same.1 (
-          sorted_alike cmp total apart made' rows' no_ties (IsPermutation-trans apart made made' q
-          perm) in_order
-          (IsPermutation-trans apart made rows' q (IsPermutation-trans made rows rows' p perm'))
-          in_order'))),
-    )
+-- The order of rows of serials is total.
+pub serial_row_total : IsTotalOrder serial_row_cmp
+serial_row_total = then_total (on_total (λ (r : SerialRow). r.pair) int_cmp_total)
+    (on_total (λ (r : SerialRow). r.serial) int_cmp_total)
 
--- Two lists with the same rows agree on whether they have the rows of a third list.
-pub alike : {X : Type 0} (rows others third : List X) (b : Bool) → HaveSameRows rows others
-    → (IsTrue b ↔ HaveSameRows others third) → (IsTrue b ↔ HaveSameRows rows third)
-alike rows others third b like same = (
-  λ t. ∥∥₁_elim like ∥∥₁_prop (λ p. ∥∥₁_map (same.0 t) (λ q. IsPermutation-trans rows others third p
-      q)),
-  λ h. ∥∥₁_elim like (So-prop b)
-      (λ p. ∥∥₁_elim h (So-prop b) (λ q. same.1 ∣ IsPermutation-trans others rows third
-      (IsPermutation-sym rows others p) q ∣₁)),
+ascending_weaker : {X : Type 0} (R Q : X → X → Type 0) → ((x y : X) → R x y → Q x y)
+    → (xs : List X) → IsAscending R xs → IsAscending Q xs
+ascending_weaker R Q f [] up = tt
+ascending_weaker R Q f (x ∷ xs) up = (
+  all_weaker (R x) (Q x) (f x) xs up.0,
+  ascending_weaker R Q f xs up.1,
 )
-
-abbrev pub by_key : SerialRow → SerialRow → Ordering
-by_key a b = ordering_then (int_cmp a.pair b.pair) (int_cmp a.serial b.serial)
 
 -- Two rows of serials have different keys.
 abbrev pub HaveKeys : SerialRow → SerialRow → Type 0
-HaveKeys a b = is_eq (by_key a b) ≡ false
+HaveKeys a b = is_eq (serial_row_cmp a b) ≡ false
 
 equal_parts : (a b : Ordering) → is_eq (ordering_then a b) ≡ true → (a ≡ Equal) × (b ≡ Equal)
 equal_parts Equal Equal h = (refl, refl)
@@ -105,7 +85,7 @@ tied x y e = let P : Ordering → Type 0 = λ o. MatchOrdering o (x <ℤ y) (x �
 
 -- Identifiers whose rows have the same key are the same.
 tied_ids : (u v : Bool) (i j : Issuance) → IsIssuance i → IsIssuance j
-    → is_eq (by_key (serial_row u i) (serial_row v j)) ≡ true → is_of i.id j ≡ true
+    → is_eq (serial_row_cmp (serial_row u i) (serial_row v j)) ≡ true → is_of i.id j ≡ true
 tied_ids u v i j here there h =
     let parts = equal_parts _ _ h in
     let pair : pair_of i.id.service i.id.country ≡ pair_of j.id.service j.id.country =
@@ -122,7 +102,7 @@ tied_ids u v i j here there h =
 
 apart_from : (f : Issuance → Bool) (i : Issuance) (js : List Issuance) → IsIssuance i
     → All IsIssuance js → list_any (is_of i.id) js ≡ false
-    → AllByRecursion (λ row. is_eq (by_key (serial_row (f i) i) row) ≡ false)
+    → AllByRecursion (λ row. is_eq (serial_row_cmp (serial_row (f i) i) row) ≡ false)
     (map (λ j. serial_row (f j) j) js)
 apart_from f i [] here all none = tt
 apart_from f i (j ∷ js) here all none =
@@ -162,6 +142,33 @@ no_ties f (i ∷ is) all =
           (still_none i.id is e),
       apart,
     )
+
+at_most : (a b : SerialRow) → serial_row_cmp a b ≢ Greater → is_gt (serial_row_cmp a b) ≡ false
+at_most a b = go (serial_row_cmp a b)
+  where
+    go : (o : Ordering) → o ≢ Greater → is_gt o ≡ false
+    go Less h = refl
+    go Equal h = refl
+    go Greater h = absurd (h refl)
+
+-- Sorted rows of serials are those of a list without two of one key exactly if they rise, if each
+-- is one of the list, and if there are as many.
+pub same_where_matched : (made rows : List SerialRow) (b : Bool) → IsAscending HaveKeys made
+    → IsAscending (λ x y. serial_row_cmp x y ≢ Greater) rows
+    → (IsTrue b ↔ (IsAscending (λ x y. serial_row_cmp x y ≡ Less) rows × All (Contains made) rows
+    × (length rows ≡ length made)))
+    → (IsTrue b ↔ HaveSameRows made rows)
+same_where_matched made rows b apart sorted verdict = (
+  λ t. let v = verdict.0 t in
+      ∣ rising_part serial_row_cmp serial_row_total made rows v.0
+      (recursion_from_All (Contains made) rows v.1) v.2 ∣₁,
+  λ h. ∥∥₁_elim h (So-prop b) (λ p. verdict.1 (
+    ordered_rises serial_row_cmp serial_row_total made rows apart p
+        (ascending_weaker _ _ at_most rows sorted),
+    All-permutation (Contains made) made rows p (All-contains_itself made),
+    length_permutation made rows p,
+  )),
+)
 
 -- No two rows of serials have the same key.
 pub serial_rows_apart : (h : List Entry) → All IsCall h → IsAscending HaveKeys (serial_rows h)

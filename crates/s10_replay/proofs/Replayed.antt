@@ -2,18 +2,22 @@
 use Rattle.std.proofs.Common.{◌≡◌, ℕ, ℤ, suc, ◌+◌, ◌^◌, ◌<◌, List, [], ◌∷◌, ◌++◌, length}
 use Rattle.std.proofs.Common.{get_or, take, length-take, Option, Some, sym, ap, ◌∙◌, inl}
 use Rattle.std.proofs.Common.{inr, arith, pos, subst}
-use Rattle.std.specs.Prelude.{None, IfSome, IfNone}
+use Rattle.std.specs.Prelude.{None, IfSome, IfNone, slice_get}
 use Rattle.std.proofs.lemmas.Option.{none-some, slice_get-get_or}
-use Rattle.std.proofs.lemmas.List.{take_more, map-append, length-map}
+use Rattle.std.proofs.lemmas.List.{map-append, length-map, length-append}
+use Rattle.std.proofs.Math.Seq.{take-append_seam, get_or-append_seam}
 use Rattle.s10_history.specs.declared.entry.Entry.{Entry}
 use Rattle.s10_history.specs.Settings.{Terms, AreTerms}
 use Rattle.s10_book.specs.Rules.{MayFollow}
 use Rattle.s10_rows.specs.CallRow.{StoredCall}
 use Rattle.s10_replay.specs.ReadRows.{IsCallOf}
 use Rattle.s10_rows.specs.declared.head_row.HeadRow.{HeadRow}
-use Rattle.s10_rows.specs.declared.open_fault.OpenFault.TheVariants.{Damaged}
+use Rattle.s10_rows.specs.declared.open_fault.OpenFault.{OpenFault}
+use Rattle.s10_rows.specs.declared.open_fault.OpenFault.TheVariants.{NotALedger, Schema, Damaged}
+use Rattle.s10_rows.specs.declared.open_fault.OpenFault.TheVariants.{NotEmpty, Memory, Store}
 use Rattle.s10_rows.specs.Tables.{Tables, head_row}
-use Rattle.s10_replay.specs.RightRows.{IsRightRow, AreRight, kept_of, entry_of}
+use Rattle.s10_replay.specs.RightRows.{IsRightRow, AreRight, HasReplayed, kept_of, entry_of}
+use Rattle.s10_replay.specs.FaultNames.{IsRowFault}
 use Rattle.s10_rows.specs.Selected.{IsCall}
 use Rattle.s10_replay.specs.CheckedTables.{IsHead, IsFirstWrong, IsRefusal}
 use Rattle.s10_wire.specs.Datagrams.{Replies}
@@ -73,40 +77,6 @@ right_push t xs a right here k row is =
 pub right_none : (t : Terms) → AreRight t []
 right_none t k row is = absurd (none-some row is)
 
--- The row after the first i is right too.
-pub right_more : (t : Terms) (rows : List StoredCall) (i : ℕ) (row : StoredCall) → i < length rows
-    → row ≡ get_or rows i row
-    → AreRight t (take i rows) → IsRightRow t (kept_of (take i rows)) row
-    → AreRight t (take (i + 1) rows)
-right_more t rows i row within is right here =
-    let more : take (i + 1) rows ≡ take i rows ++ row ∷ [] = take_more rows i row within
-    ∙ ap (λ r. take i rows ++ r ∷ []) (sym is) in
-    subst (AreRight t) (sym more) (right_push t (take i rows) row right here)
-
-pub kept_more : (rows : List StoredCall) (i : ℕ) (row : StoredCall) → i < length rows
-    → row ≡ get_or rows i row
-    → kept_of (take (i + 1) rows) ≡ kept_of (take i rows) ++ entry_of row ∷ []
-kept_more rows i row within is =
-    ap kept_of (take_more rows i row within ∙ ap (λ r. take i rows ++ r ∷ []) (sym is))
-    ∙ map-append entry_of (take i rows) (row ∷ [])
-
--- The row after the right ones is the first wrong one.
-pub first_wrong : (tables : Tables) (t : Terms) (rows : List StoredCall) (i n : ℕ)
-    (row : StoredCall) → tables.calls ≡ rows → IsHead tables.heads (pos 1) t
-    → i < length rows → row ≡ get_or rows i row → n ≡ suc i → AreRight t (take i rows)
-    → ¬ IsRightRow t (kept_of (take i rows)) row
-    → IsRefusal tables (Damaged n)
-first_wrong tables t rows i n row same head within is count right wrong =
-    let wrong_there : IsFirstWrong t rows i =
-    record {
-      right = right;
-      row = row;
-      there = slice_get-get_or rows i row within ∙ ap Some (sym is);
-      wrong = wrong;
-    } in
-    subst (λ m. IsRefusal tables (Damaged m)) (sym count)
-    (t, head, subst (λ (l : List StoredCall). IsFirstWrong t l i) (sym same) wrong_there)
-
 pub some_there : {A : Type 0} (P : A → Type 0) (o : Option A) (x : A) → IfSome o P → o ≡ Some x
     → P x
 some_there P o x h is = subst (λ p. IfSome p P) is h
@@ -124,22 +94,55 @@ pub kept_length : (rows : List StoredCall) (i : ℕ) → i < length rows
     → length (kept_of (take i rows)) ≡ i
 kept_length rows i within = length-map (take i rows) entry_of ∙ omega (arith, length-take i rows)
 
--- The rows are right, and their calls are kept.
-pub record HasReplayed (t : Terms) (rows : List StoredCall) (kept : List Entry) : Type 0 where
-  pub right : AreRight t rows
-  pub history : kept ≡ kept_of rows
-
 pub replayed_none : (t : Terms) (kept : List Entry) → kept ≡ [] → HasReplayed t [] kept
 replayed_none t kept none = record { right = right_none t; history = none }
 
 -- The book with one more call keeps the calls of one more row.
-pub replayed_more : (t : Terms) (rows : List StoredCall) (i : ℕ) (row : StoredCall)
-    (old new : List Entry) (e : Entry) → i < length rows → row ≡ get_or rows i row
-    → HasReplayed t (take i rows) old → IsRightRow t old row → e ≡ entry_of row
-    → new ≡ old ++ e ∷ [] → HasReplayed t (take (i + 1) rows) new
-replayed_more t rows i row old new e within is so_far right read more = record {
-  right = right_more t rows i row within is so_far.right
-      (subst (λ l. IsRightRow t l row) so_far.history right);
-  history = more ∙ ap (λ l. l ++ e ∷ []) so_far.history ∙ ap (λ x. kept_of (take i rows) ++ x ∷ [])
-      read ∙ sym (kept_more rows i row within is);
+pub replayed_more : (t : Terms) (rows : List StoredCall) (row : StoredCall) (old new : List Entry)
+    → HasReplayed t rows old → IsRightRow t old row → new ≡ old ++ entry_of row ∷ []
+    → HasReplayed t (rows ++ row ∷ []) new
+replayed_more t rows row old new so_far right more = record {
+  right = right_push t rows row so_far.right (subst (λ l. IsRightRow t l row) so_far.history right);
+  history = more ∙ ap (λ l. l ++ entry_of row ∷ []) so_far.history
+      ∙ sym (map-append entry_of rows (row ∷ []));
 }
+
+there_after : (rows : List StoredCall) (row : StoredCall) (rest : List StoredCall)
+    → slice_get (rows ++ row ∷ rest) (length rows) ≡ Some row
+there_after rows row rest = slice_get-get_or (rows ++ row ∷ rest) (length rows) row
+    (omega (arith, length-append rows (row ∷ rest)))
+    ∙ ap Some (get_or-append_seam rows row rest row)
+
+-- The row after the right ones is the first wrong one.
+first_wrong : (t : Terms) (rows rest : List StoredCall) (row : StoredCall) (kept : List Entry)
+    → HasReplayed t rows kept → ¬ IsRightRow t kept row
+    → IsFirstWrong t (rows ++ row ∷ rest) (length kept)
+first_wrong t rows rest row kept so_far wrong =
+    let long : length kept ≡ length rows = ap length so_far.history ∙ length-map rows entry_of in
+    let before : take (length kept) (rows ++ row ∷ rest) ≡ rows =
+    ap (λ n. take n (rows ++ row ∷ rest)) long ∙ take-append_seam rows (row ∷ rest) in
+    record {
+      right = subst (AreRight t) (sym before) so_far.right;
+      row = row;
+      there = ap (slice_get (rows ++ row ∷ rest)) long ∙ there_after rows row rest;
+      wrong = λ right. wrong (subst (λ l. IsRightRow t l row)
+          (ap kept_of before ∙ sym so_far.history) right);
+    }
+
+-- A fault of the row after the right ones is a refusal of all tables that have these rows first.
+pub refused_row : (t : Terms) (rows rest : List StoredCall) (row : StoredCall) (kept : List Entry)
+    (fault : OpenFault) (tables : Tables) → HasReplayed t rows kept → IsRowFault t kept row fault
+    → tables.calls ≡ rows ++ row ∷ rest → IsHead tables.heads (pos 1) t → IsRefusal tables fault
+refused_row t rows rest row kept NotALedger tables so_far is same head = absurd is
+refused_row t rows rest row kept (Schema n) tables so_far is same head = absurd is
+refused_row t rows rest row kept (Damaged k) tables so_far is same head =
+    let count : suc (length kept) ≡ k = omega (arith, is.0) in
+    subst (λ m. IsRefusal tables (Damaged m)) count (
+      t,
+      head,
+      subst (λ l. IsFirstWrong t l (length kept)) (sym same)
+          (first_wrong t rows rest row kept so_far is.1),
+    )
+refused_row t rows rest row kept NotEmpty tables so_far is same head = absurd is
+refused_row t rows rest row kept Memory tables so_far is same head = tt
+refused_row t rows rest row kept Store tables so_far is same head = tt

@@ -1,5 +1,6 @@
 -- A list with no ties has one sorted order.
-use Rattle.std.proofs.Common.{add-one, ◌≡◌, ◌⊎◌, inl, inr, suc, Bool, false, List, [], ◌∷◌, refl}
+use Rattle.std.proofs.Common.{add-one, ◌≡◌, ◌⊎◌, inl, inr, zero, suc, length, Bool, false, List}
+use Rattle.std.proofs.Common.{[], ◌∷◌, refl}
 use Rattle.std.proofs.Common.{sym, ap, ap₂, ◌∙◌, subst, arith, Ordering, Less, Equal, Greater}
 use Rattle.std.proofs.Common.{is_lt, is_gt, is_eq, true≢false, IsPermutation, IsSorted}
 use Rattle.std.specs.List.{AllByRecursion, IsDistinct}
@@ -8,11 +9,16 @@ use Rattle.std.specs.Ordering.{ordering_reverse}
 use Rattle.std.proofs.lemmas.Cmp.{upto}
 use Rattle.std.proofs.lemmas.List.Elements.{recursion_from_All, All-from_recursion}
 use Rattle.std.proofs.lemmas.List.Sorted.{length_permutation, All-permutation, IsPermutation-sym}
-use Rattle.std.proofs.lemmas.List.Sorted.{IsPermutation-trans}
+use Rattle.std.proofs.lemmas.List.Sorted.{IsPermutation-trans, IsPermutation-refl}
+use Rattle.std.proofs.lemmas.List.Sorted.{IsPermutation-cons, IsPermutation-remove}
+use Rattle.std.proofs.lemmas.List.Sorted.{Contains-permutation}
+use Rattle.std.proofs.lemmas.List.{nil_from_length}
+use Rattle.std.specs.List.{remove}
+use Rattle.std.specs.Prelude.{Contains}
 use Rattle.std.proofs.lemmas.Map.Keys.{IsDistinct-IsPermutation}
 use Rattle.s10_replay.specs.Ascending.{IsAscending}
 
-all_weaker : {X : Type 0} (P Q : X → Type 0) → ((x : X) → P x → Q x) → (xs : List X)
+pub all_weaker : {X : Type 0} (P Q : X → Type 0) → ((x : X) → P x → Q x) → (xs : List X)
     → AllByRecursion P xs → AllByRecursion Q xs
 all_weaker P Q f [] h = tt
 all_weaker P Q f (x ∷ xs) h = (f x h.0, all_weaker P Q f xs h.1)
@@ -110,12 +116,18 @@ module _ {X : Type 0} (cmp : X → X → Ordering) (total : IsTotalOrder cmp) wh
   rises [] up apart = tt
   rises (x ∷ xs) up apart = (below x xs up.0 apart.0, rises xs up.1 apart.1)
 
+  -- An order of a list with no ties in which no element is above a later one rises.
+  pub ordered_rises : (xs ys : List X) → HasNoTies xs → IsPermutation xs ys → IsAscending AtMost ys
+      → IsAscending Below ys
+  ordered_rises xs ys apart same up = rises ys up
+      (IsDistinct-IsPermutation tie (λ x y. ap is_eq (total.antisymm x y) ∙ turned_eq (cmp y x)) xs
+      ys same (distinct xs apart))
+
   -- A sorted order of a list with no ties rises.
   sorted_rises : (xs ys : List X) → HasNoTies xs → IsPermutation xs ys → IsSorted cmp ys
       → IsAscending Below ys
-  sorted_rises xs ys apart same sorted = rises ys (ascending_from_sorted ys sorted)
-      (IsDistinct-IsPermutation tie (λ x y. ap is_eq (total.antisymm x y) ∙ turned_eq (cmp y x)) xs
-      ys same (distinct xs apart))
+  sorted_rises xs ys apart same sorted =
+      ordered_rises xs ys apart same (ascending_from_sorted ys sorted)
 
   -- Two lists that rise are equal if they have the same elements.
 
@@ -156,14 +168,41 @@ module _ {X : Type 0} (cmp : X → X → Ordering) (total : IsTotalOrder cmp) wh
       one_order xs ys up up' (in_permuted ys xs (IsPermutation-sym xs ys same))
       (in_permuted xs ys same)
 
+  -- Rows that rise, each of them an element of a list of the same length, are that list in an order.
+
+  in_rest : (x z : X) (ys : List X) → Below x z → Contains (x ∷ ys) z → Contains ys z
+  in_rest x z ys up (zero, within, is) = let less : Below x x = ap (cmp x) is ∙ up in
+      absurd (not_both x x less less)
+  in_rest x z ys up (suc k, within, is) = (k, omega (arith, within), is)
+
+  all_in_rest : (x : X) (ys zs : List X) → AllByRecursion (Below x) zs
+      → AllByRecursion (Contains (x ∷ ys)) zs → AllByRecursion (Contains ys) zs
+  all_in_rest x ys [] up within = tt
+  all_in_rest x ys (z ∷ zs) up within = (
+    in_rest x z ys up.0 within.0,
+    all_in_rest x ys zs up.1 within.1,
+  )
+
+  all_moved : (xs ys zs : List X) → IsPermutation xs ys → AllByRecursion (Contains xs) zs
+      → AllByRecursion (Contains ys) zs
+  all_moved xs ys zs same = all_weaker (Contains xs) (Contains ys)
+      (λ z. Contains-permutation xs ys z same) zs
+
+  pub rising_part : (xs ys : List X) → IsAscending Below ys → AllByRecursion (Contains xs) ys
+      → length ys ≡ length xs → IsPermutation xs ys
+  rising_part xs [] up within long = subst (λ l. IsPermutation l []) (sym (nil_from_length xs
+      (sym long))) (IsPermutation-refl [])
+  rising_part xs (y ∷ ys) up within long =
+      let k = within.0.0 in
+      let first : IsPermutation xs (y ∷ remove xs k) = IsPermutation-remove xs k y within.0.1
+      (sym within.0.2) in
+      let rest : AllByRecursion (Contains (remove xs k)) ys =
+      all_in_rest y (remove xs k) ys up.0 (all_moved xs (y ∷ remove xs k) ys first within.1) in
+      IsPermutation-trans xs (y ∷ remove xs k) (y ∷ ys) first
+      (IsPermutation-cons y (remove xs k) ys (rising_part (remove xs k) ys up.1 rest
+      (omega (arith, long, length_permutation _ _ first))))
+
   pub sorted_unique : (xs ys : List X) → IsAscending (λ a b. cmp a b ≡ Less) xs
       → IsPermutation xs ys → IsSorted cmp ys → ys ≡ xs
   sorted_unique xs ys strict same sorted =
       both_rise xs ys strict (sorted_rises xs ys (no_ties xs strict) same sorted) same
-
-  -- A list with no ties has one sorted order.
-  pub sorted_alike : (xs ys zs : List X) → HasNoTies xs → IsPermutation xs ys → IsSorted cmp ys
-      → IsPermutation xs zs → IsSorted cmp zs → ys ≡ zs
-  sorted_alike xs ys zs apart same sorted same' sorted' =
-      both_rise zs ys (sorted_rises xs zs apart same' sorted') (sorted_rises xs ys apart same sorted)
-      (IsPermutation-trans zs xs ys (IsPermutation-sym xs zs same') same)

@@ -42,3 +42,8 @@ kept_of rows = map entry_of rows
 abbrev pub AreRight : Terms → List StoredCall → Type 0
 AreRight t rows = (k : ℕ) (row : StoredCall) → slice_get rows k ≡ Some row
     → IsRightRow t (kept_of (take k rows)) row
+
+-- The rows were executed again: each is right, and these calls are kept.
+pub record HasReplayed (t : Terms) (rows : List StoredCall) (kept : List Entry) : Type 0 where
+  pub right : AreRight t rows
+  pub history : kept ≡ kept_of rows

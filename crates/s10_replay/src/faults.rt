@@ -1,8 +1,6 @@
 //! The fault of an opening that a fault of a book becomes.
 
-ghost use Rattle.std.specs.Prelude.{◌≡◌, ◌≢◌};
-ghost use Rattle.s10_rows.specs.Tables.{Tables};
-ghost use Rattle.s10_replay.specs.CheckedTables.{IsRefusal};
+ghost use Rattle.std.specs.Prelude.{◌≡◌, ◌≢◌, ◌⊎◌};
 
 use s10_book::BookFault;
 use s10_rows::OpenFault;
@@ -12,7 +10,7 @@ use s10_rows::OpenFault;
 pub fn fault_of_book(fault: BookFault) -> OpenFault
     ensures memory { fault ≡ BookFault.Memory → result ≡ OpenFault.Memory }
     ensures store { fault ≢ BookFault.Memory → result ≡ OpenFault.Store }
-    ensures refusal { (tables : Tables) → IsRefusal tables result }
+    ensures either { (result ≡ OpenFault.Memory) ⊎ (result ≡ OpenFault.Store) }
 {
     match fault {
         BookFault::Memory => OpenFault::Memory,

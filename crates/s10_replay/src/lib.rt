@@ -15,6 +15,6 @@ mod usage_reading;
 pub use derived_writes::{grant_write, issue_writes, issue_writes_are_complete, void_write};
 pub use faults::fault_of_book;
 pub use head_reading::settings_in;
-pub use replaying::replay_rows;
-pub use same_rows::{same_closed, same_ranges, same_serials};
+pub use replaying::replay_row;
+pub use same_rows::{same_closed, same_ranges};
 pub use usage_reading::usage_among;

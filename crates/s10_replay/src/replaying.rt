@@ -1,14 +1,12 @@
 //! Replays the calls of a ledger.
 
 ghost use Rattle.std.specs.Prelude.{◌≡◌, ◌↔◌, ◌<◌, ◌≤◌, pos, length, IfSome, IfNone, IfOk, IfErr};
-ghost use Rattle.std.specs.Prelude.{IsTrue, None, OnOk, []};
+ghost use Rattle.std.specs.Prelude.{IsTrue, None, OnOk, [], ◌∷◌, ◌++◌};
 ghost use Rattle.s10_book.specs.Book.{Unchanged};
 ghost use Rattle.s10_book.specs.BookFault.{CountsResult};
 ghost use Rattle.s10_history.specs.History.{day_of, find_entry};
-ghost use Rattle.s10_rows.specs.Tables.{Tables};
-ghost use Rattle.s10_replay.specs.RightRows.{IsRightRow, AreRight, kept_of, entry_of};
-ghost use Rattle.s10_replay.specs.CheckedTables.{IsHead, IsRefusal};
-ghost use Rattle.s10_replay.specs.FaultNames.{CountsReplay};
+ghost use Rattle.s10_replay.specs.RightRows.{IsRightRow, entry_of};
+ghost use Rattle.s10_replay.specs.FaultNames.{CountsReplay, IsRowFault};
 ghost use Rattle.s10_rows.specs.Selected.{IsCall};
 
 use crate::call_reading::entry_in_row;
@@ -88,33 +86,30 @@ fn right_call<B: Book>(book: &mut B, row: &CallRow) -> Result<Option<Entry>, Boo
     }
 }
 
-/// Executes the calls of the rows again and keeps them, in a book without calls.
+/// Executes the call of the row again after the book's calls, and keeps it.
 ///
 /// # Errors
 ///
-/// - `Damaged` with the arrival of the first wrong row.
+/// - `Damaged` with the arrival that the next call has, if the row is wrong.
 /// - `Memory` or `Store` if the book fails.
-pub fn replay_rows<B: Book>(book: &mut B, rows: &[CallRow]) -> Result<(), OpenFault>
+pub fn replay_row<B: Book>(book: &mut B, row: &CallRow) -> Result<(), OpenFault>
     ensures was_honest { B.honest book.new → B.honest book.old }
     ensures same_terms { B.honest book.new → B.terms book.new ≡ B.terms book.old }
-    ensures right { B.honest book.new → B.history book.old ≡ []
-        → OnOk result (AreRight (B.terms book.old) rows.now) }
-    ensures history { B.honest book.new → B.history book.old ≡ []
-        → OnOk result (B.history book.new ≡ kept_of rows.now) }
-    ensures err { B.honest book.new → B.history book.old ≡ [] → (tables : Tables)
-        → tables.calls ≡ rows.now → IsHead tables.heads (pos 1) (B.terms book.old)
-        → IfErr result (IsRefusal tables) }
+    ensures right { B.honest book.new
+        → OnOk result (IsRightRow (B.terms book.old) (B.history book.old) row.now) }
+    ensures history { B.honest book.new
+        → OnOk result (B.history book.new ≡ B.history book.old ++ entry_of row.now ∷ []) }
+    ensures err { B.honest book.new
+        → IfErr result (IsRowFault (B.terms book.old) (B.history book.old) row.now) }
     ensures faults { CountsReplay result (B.faults book.old) (B.faults book.new) }
 {
-    for row in rows {
-        let call = match right_call(book, row) {
-            Ok(Some(call)) => call,
-            Ok(None) => return Err(OpenFault::Damaged(book.len() + 1)),
-            Err(fault) => return Err(fault_of_book(fault)),
-        };
-        if let Err(fault) = book.keep(call) {
-            return Err(fault_of_book(fault));
-        }
+    let call = match right_call(book, row) {
+        Ok(Some(call)) => call,
+        Ok(None) => return Err(OpenFault::Damaged(book.len() + 1)),
+        Err(fault) => return Err(fault_of_book(fault)),
+    };
+    match book.keep(call) {
+        Ok(()) => Ok(()),
+        Err(fault) => Err(fault_of_book(fault)),
     }
-    Ok(())
 }

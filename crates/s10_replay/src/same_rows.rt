@@ -1,21 +1,14 @@
 //! Compares rows in any order.
 
-ghost use Rattle.std.specs.Prelude.{◌≡◌, ◌↔◌, false, List, IsTrue};
-ghost use Rattle.std.specs.Ordering.{int_cmp, ordering_then, is_eq};
+ghost use Rattle.std.specs.Prelude.{◌≡◌, ◌↔◌, IsTrue};
+ghost use Rattle.std.specs.Ordering.{int_cmp};
 ghost use Rattle.std.specs.declared.cmp.Ordering.TheVariants.{Less};
 ghost use Rattle.s10_replay.specs.Ascending.{IsAscending};
-ghost use Rattle.s10_rows.specs.declared.serial_row.SerialRow.{SerialRow};
 ghost use Rattle.s10_rows.specs.Tables.{HaveSameRows};
 
-use s10_rows::{ClosedRow, RangeRow, SerialRow};
+use s10_rows::{ClosedRow, RangeRow};
 
 fn are_ranges(rows: &[RangeRow], others: &[RangeRow]) -> bool
-    ensures { IsTrue result ↔ (rows.now ≡ others.now) }
-{
-    rows == others
-}
-
-fn are_serials(rows: &[SerialRow], others: &[SerialRow]) -> bool
     ensures { IsTrue result ↔ (rows.now ≡ others.now) }
 {
     rows == others
@@ -45,18 +38,4 @@ pub fn same_ranges(made: &[RangeRow], mut rows: Vec<RangeRow>) -> bool
 {
     rows.sort_unstable_by_key(|row| row.num);
     are_ranges(made, &rows)
-}
-
-/// Returns whether both lists have the same rows of `serials`, in any order. The answer is right if
-/// no two rows of `made` have the same pair and serial.
-pub fn same_serials(mut made: Vec<SerialRow>, mut rows: Vec<SerialRow>) -> bool
-    ensures { (keyed : List SerialRow)
-        → IsAscending
-        (λ a b. is_eq (ordering_then (int_cmp a.pair b.pair) (int_cmp a.serial b.serial)) ≡ false)
-        keyed → HaveSameRows keyed made.items
-        → IsTrue result ↔ HaveSameRows made.items rows.items }
-{
-    made.sort_unstable_by_key(|row| (row.pair, row.serial));
-    rows.sort_unstable_by_key(|row| (row.pair, row.serial));
-    are_serials(&made, &rows)
 }

@@ -1,6 +1,8 @@
 -- Defines the rows of the five tables for a history.
 use Rattle.std.specs.Prelude.{ℕ, ◌+◌, pos, Bool, if◌then◌else◌, List, [], ◌∷◌, ◌++◌, map}
 use Rattle.std.specs.Prelude.{IsPermutation, Option, Some, None, option_to_list}
+use Rattle.std.specs.Ordering.{int_cmp, ordering_then}
+use Rattle.std.specs.declared.cmp.Ordering.{Ordering}
 use Rattle.s10_core.specs.Pair.{pair_of}
 use Rattle.s10_wire.specs.declared.body.Body.{Body}
 use Rattle.s10_wire.specs.declared.body.Body.TheVariants.{Withdraw}
@@ -30,6 +32,10 @@ pub record Tables : Type 0 where
 -- Two lists have the same rows, in any order.
 abbrev pub HaveSameRows : {R : Type 0} → List R → List R → Type 0
 HaveSameRows rows others = ∥ IsPermutation rows others ∥₁
+
+-- How two rows of serials compare: by pair, then by serial.
+abbrev pub serial_row_cmp : SerialRow → SerialRow → Ordering
+serial_row_cmp a b = ordering_then (int_cmp a.pair b.pair) (int_cmp a.serial b.serial)
 
 -- The one row of head: schema 1, and the settings.
 abbrev pub head_row : Terms → HeadRow

@@ -22,11 +22,10 @@ use Rattle.sqlite.proofs.Callers.{reads_as}
 use Rattle.s10_rows.specs.declared.range_row.RangeRow.{RangeRow}
 use Rattle.s10_rows.specs.declared.serial_row.SerialRow.{SerialRow}
 use Rattle.s10_rows.specs.declared.closed_row.ClosedRow.{ClosedRow}
-use Rattle.s10_rows.specs.CallRow.{StoredCall}
 use Rattle.s10_schema.specs.Schema.{IsLedgerSchema, IsClosedSchema}
 use Rattle.s10_schema.specs.Schema.{others_in, others_after_closed}
 use Rattle.s10_schema.specs.Schema.{head_table, calls_table, ranges_table, serials_table, closed_table}
-use Rattle.s10_statements.specs.Shown.{shown_call, shown_range, shown_serial, shown_closed}
+use Rattle.s10_statements.specs.Shown.{shown_range, shown_serial, shown_closed}
 use Rattle.s10_statements.specs.Shown.{head_columns, call_columns, range_columns, serial_columns}
 use Rattle.s10_statements.specs.Shown.{closed_columns, serial_from}
 use Rattle.s10_rows.specs.Selected.{is_within}
@@ -35,7 +34,7 @@ use Rattle.s10_statements.specs.Statements.{select_serials_within_sql, select_se
 use Rattle.s10_statements.specs.Statements.{select_closed_sql}
 use Rattle.s10_statements.proofs.Texts.{read_of, IsQuery, by_one, by_pair, head_read, calls_query}
 use Rattle.s10_statements.proofs.Texts.{calls_read, ranges_read, within_tests, within_read}
-use Rattle.s10_statements.proofs.Texts.{wide_terms, serials_read, closed_read, terms_in}
+use Rattle.s10_statements.proofs.Texts.{wide_terms, serials_query, serials_read, closed_read, terms_in}
 use Rattle.s10_statements.proofs.ReadLemmas.{kept_are, rows_are, rows_rise, selected}
 
 abbrev pub wide_columns : Row → Row
@@ -47,7 +46,7 @@ wide_columns r = column r 1 ∷ column r 2 ∷ column r 3 ∷ column r 4 ∷ col
 abbrev pub first_key : Row → Row
 first_key v = column v 0 ∷ []
 
-abbrev pair_key : Row → Row
+abbrev pub pair_key : Row → Row
 pair_key v = column v 0 ∷ column v 1 ∷ []
 
 -- The tests of WHERE.
@@ -149,6 +148,10 @@ module _ (params : Row) (old new : State) (rows : List Row)
   within_shows h = shows_passing 4 within_tests (terms_in serials_table) by_pair (within_read o) params old new
       rows has.is h serial_columns pair_key (within_test params) (λ r. refl) (λ r. refl)
 
+  pub serials_answers : Shown select_serials_sql params old new rows
+      → IsAnswer serials_query (overlay old.now.trees []) params rows
+  serials_answers h = answers 4 [] wide_terms by_pair (serials_read o) params old new rows has.is h
+
   pub serials_shows : Shown select_serials_sql params old new rows
       → IsPermutation (map wide_columns (old.now.trees 4)) rows
   serials_shows h = subst (λ vs. IsPermutation vs rows) (all_pass (map wide_columns (old.now.trees
@@ -156,17 +159,6 @@ module _ (params : Row) (old new : State) (rows : List Row)
       (shows_passing 4 [] wide_terms by_pair (serials_read o) params old new rows has.is h
       wide_columns pair_key
       always (λ r. refl) (λ r. refl))
-
-  -- Rows of calls in order of arrival.
-  pub calls_rise : (xs : List StoredCall) → IsAscending (λ a b. int_cmp a.arrival b.arrival ≡ Less)
-      xs
-      → IsPermutation (map shown_call xs) (map call_columns (old.now.trees 1))
-      → Shown select_calls_sql params old new rows → rows ≡ map shown_call xs
-  calls_rise xs up same h = rises 1 [] (terms_in calls_table) by_one (calls_read o) params old new rows has.is h
-      call_columns first_key always (λ r. refl) (λ r. refl) shown_call (λ x. x.arrival)
-      (λ a b less. rw (value_less a.arrival b.arrival less)) xs up
-      (subst (IsPermutation (map shown_call xs)) (sym (all_pass (map call_columns (old.now.trees
-      1)))) same)
 
   -- Rows of ranges in order of their numbers.
   pub ranges_rise : (xs : List RangeRow) → IsAscending (λ a b. int_cmp a.num b.num ≡ Less) xs

@@ -21,14 +21,14 @@ use Rattle.s10_rows.specs.Tables.{Tables, HaveSameRows}
 use Rattle.s10_statements.specs.Shown.{HasTables, shown_head, shown_call, shown_range, shown_serial}
 use Rattle.s10_statements.specs.Shown.{shown_closed, head_columns, call_columns, range_columns}
 use Rattle.s10_statements.specs.Shown.{serial_columns, closed_columns, serial_front}
-use Rattle.s10_statements.specs.Shown.{HasIntegerRowid, call_from, range_from, closed_from}
+use Rattle.s10_statements.specs.Shown.{HasIntegerRowid, range_from, closed_from}
 use Rattle.s10_rows.specs.Selected.{is_within}
 use Rattle.s10_statements.specs.Statements.{select_head_sql, select_calls_sql, select_ranges_sql}
 use Rattle.s10_statements.specs.Statements.{select_serials_within_sql, select_serials_sql}
 use Rattle.s10_statements.specs.Statements.{select_closed_sql}
 use Rattle.s10_statements.proofs.ReadLemmas.{read_back}
 use Rattle.s10_statements.proofs.GoneLemmas.{all_moved}
-use Rattle.s10_statements.proofs.AnswerLemmas.{wide_columns, head_shows, calls_shows, calls_rise}
+use Rattle.s10_statements.proofs.AnswerLemmas.{wide_columns, head_shows, calls_shows}
 use Rattle.s10_statements.proofs.AnswerLemmas.{ranges_shows, ranges_rise, within_shows}
 use Rattle.s10_statements.proofs.AnswerLemmas.{within_params, within_test, within_selects}
 use Rattle.s10_statements.proofs.AnswerLemmas.{serials_shows, closed_shows, closed_rise}
@@ -75,15 +75,6 @@ module _ (params : Row) (old new : State) (rows : List Row)
       all_unmap (λ v. IsTrue (is_int (column v 7))) wide_columns (old.now.trees 4)
       (all_moved (λ v. IsTrue (is_int (column v 7))) rows (map wide_columns (old.now.trees 4))
       (IsPermutation-sym _ _ (serials_shows params old new rows has h)) each)
-
-  pub calls_in_order : (tables : Tables) → HasTables old.now tables
-      → IsAscending (λ a b. int_cmp a.arrival b.arrival ≡ Less) tables.calls
-      → (found : List StoredCall) → Shown select_calls_sql params old new rows
-      → map shown_call found ≡ rows → found ≡ tables.calls
-  calls_in_order tables held up found h typed =
-      let same : rows ≡ map shown_call tables.calls = ∥∥₁_elim held.calls (rows_set _ _)
-      (λ p. calls_rise params old new rows has tables.calls up p h) in
-      read_back shown_call call_from (λ x. refl) found tables.calls (typed ∙ same)
 
   pub ranges_in_order : (tables : Tables) → HasTables old.now tables
       → IsAscending (λ a b. int_cmp a.num b.num ≡ Less) tables.ranges → (found : List RangeRow)

@@ -10,7 +10,9 @@ ghost use Rattle.sqlite.specs.State.{Shown};
 ghost use Rattle.sqlite.specs.Given.{IsPlain};
 ghost use Rattle.sqlite.specs.Listing.{understood};
 ghost use Rattle.sqlite.specs.Values.{bound};
-ghost use Rattle.s10_rows.specs.Tables.{Tables, HaveSameRows};
+ghost use Rattle.s10_rows.specs.CallRow.{StoredCall};
+ghost use Rattle.s10_rows.specs.declared.serial_row.SerialRow.{SerialRow};
+ghost use Rattle.s10_rows.specs.Tables.{Tables, HaveSameRows, serial_row_cmp};
 ghost use Rattle.s10_schema.specs.Schema.{IsLedgerSchema, IsClosedSchema};
 ghost use Rattle.s10_statements.specs.Shown.{HasTables, shown_head, shown_call, shown_range};
 ghost use Rattle.s10_statements.specs.Shown.{shown_serial, shown_closed, head_columns};
@@ -23,6 +25,7 @@ ghost use Rattle.s10_statements.specs.Statements.{LeavesTables, LeavesTablesWher
 
 use crate::observer::Observer;
 use crate::row_reading::rows_in;
+use crate::row_sink::RowSink;
 use crate::streams::stream_rows;
 use s10_rows::{CallRow, ClosedRow, HeadRow, RangeRow, SerialRow};
 use sqlite::types::ValueRef;
@@ -70,37 +73,32 @@ pub fn all_heads<S: Alter>(alloc: Global, conn: &mut Connection<S>) -> Result<Ve
     rows_in(alloc, &rows)
 }
 
-/// Returns all rows of `calls`, in order of arrival, and reports each to the observer.
+/// Passes each row of `calls` to the sink, in order of arrival, and reports it to the observer.
 ///
 /// # Errors
 ///
 /// The error of the query, or of a value of another type than its column's; `OutOfMemory` if out of
-/// memory.
-pub fn all_calls<S: Alter, W: Observer>(
-    alloc: Global,
+/// memory. The sink may have taken some rows.
+pub fn read_calls<S: Alter, W: Observer, K: RowSink<CallRow>>(
     conn: &mut Connection<S>,
+    sink: &mut K,
     observer: &mut W,
-) -> Result<Vec<CallRow>, Error>
+) -> Result<(), Error>
     ensures spares { AddsNoCrashState S.Store conn.old conn.new }
     ensures leaves { LeavesTables S.Store conn.old conn.new }
     ensures opened { IsClean S.Store conn.new → OnOk result (IsOpen S.Store conn.new) }
     ensures rows { IsClean S.Store conn.new
-        → IfOk result (λ rows. IsLedgerSchema (state S.Store conn.old).now.schema
-        → HaveSameRows (map shown_call rows.items)
-        (map call_columns ((state S.Store conn.old).now.trees 1))) }
-    ensures in_order { IsClean S.Store conn.new → IfOk result (λ rows. (tables : Tables)
-        → HasTables (state S.Store conn.old).now tables
-        → IsAscending (λ a b. int_cmp a.arrival b.arrival ≡ Ordering.Less) tables.calls
-        → rows.items ≡ tables.calls) }
-    ensures sorted { IsClean S.Store conn.new
-        → IfOk result (λ rows. IsLedgerSchema (state S.Store conn.old).now.schema
-        → IsAscending (λ a b. int_cmp a.arrival b.arrival ≢ Ordering.Greater) rows.items) }
+        → OnOk result (IsLedgerSchema (state S.Store conn.old).now.schema
+        → (calls : List StoredCall) × HaveSameRows (map shown_call calls)
+        (map call_columns ((state S.Store conn.old).now.trees 1))
+        × IsAscending (λ a b. int_cmp a.arrival b.arrival ≢ Ordering.Greater) calls
+        × K.has_taken sink.old calls sink.new) }
 {
     stream_rows(
-        alloc,
         conn,
         "SELECT arrival, customer, number, day, reply FROM calls ORDER BY arrival",
         "calls",
+        sink,
         observer,
     )
 }
@@ -161,34 +159,36 @@ pub fn serials_within<S: Alter>(
     rows_in(alloc, &rows)
 }
 
-/// Returns all rows of `serials`, and reports each to the observer. Their rowids are read too,
-/// which shows that they are integers.
+/// Passes each row of `serials` to the sink, in order of pair and serial, and reports it to the
+/// observer. Their rowids are read too, which shows that they are integers.
 ///
 /// # Errors
 ///
 /// The error of the query, or of a value of another type than its column's; `OutOfMemory` if out of
-/// memory.
-pub fn all_serials<S: Alter, W: Observer>(
-    alloc: Global,
+/// memory. The sink may have taken some rows.
+pub fn read_serials<S: Alter, W: Observer, K: RowSink<SerialRow>>(
     conn: &mut Connection<S>,
+    sink: &mut K,
     observer: &mut W,
-) -> Result<Vec<SerialRow>, Error>
+) -> Result<(), Error>
     ensures spares { AddsNoCrashState S.Store conn.old conn.new }
     ensures leaves { LeavesTables S.Store conn.old conn.new }
     ensures opened { IsClean S.Store conn.new → OnOk result (IsOpen S.Store conn.new) }
     ensures rows { IsClean S.Store conn.new
-        → IfOk result (λ rows. IsLedgerSchema (state S.Store conn.old).now.schema
-        → HaveSameRows (map shown_serial rows.items)
-        (map serial_columns ((state S.Store conn.old).now.trees 4))) }
+        → OnOk result (IsLedgerSchema (state S.Store conn.old).now.schema
+        → (serials : List SerialRow) × HaveSameRows (map shown_serial serials)
+        (map serial_columns ((state S.Store conn.old).now.trees 4))
+        × IsAscending (λ a b. serial_row_cmp a b ≢ Ordering.Greater) serials
+        × K.has_taken sink.old serials sink.new) }
     ensures numbered { IsClean S.Store conn.new
         → OnOk result (IsLedgerSchema (state S.Store conn.old).now.schema
         → AllByRecursion HasIntegerRowid ((state S.Store conn.old).now.trees 4)) }
 {
     stream_rows(
-        alloc,
         conn,
         "SELECT pair, serial, arrival, day, customer, number, voided, rowid FROM serials ORDER BY pair, serial",
         "serials",
+        sink,
         observer,
     )
 }

@@ -1,4 +1,6 @@
-use Rattle.std.proofs.lemmas.Result.{IfErr-weaker, err_from_is_err_and}
+use Rattle.std.proofs.Common.{refl, subst}
+use Rattle.s10_ledger.specs.AllRows.{AreDerivedRows}
+use Rattle.std.proofs.lemmas.Result.{err_from_is_err_and}
 use Rattle.sqlite.specs.Effect.{Database}
 use Rattle.sqlite.specs.Held.{state}
 use Rattle.s10_replay.specs.CheckedTables.{IsRefusal}
@@ -9,14 +11,15 @@ use Rattle.s10_ledger.proofs.opening.replay_tables.Goals as goal
 pub returns-clause-found : goal.returns-clause-found
 returns-clause-found g c clean opened =
     let read = c.in-Ok.ensures.rows clean opened c.requires.settled in
-    let made = if_ok c.in-Ok.read.0 _ c.in_ok-book.book c.in_ok-book.was read.ok in
+    let made = if_ok c.in-Ok.read.0 _ c.in_ok-book.book c.in_ok-book.was read.replayed.ok in
     record {
       tables = read.tables;
       has = read.has;
       whole = record {
         head = made.head;
         right = made.right;
-        made = c.in_ok-compare_rows.ensures.ok read.tables c.in_ok-book.book.settings read.theirs
+        made = c.in_ok-compare_rows.ensures.ok read.tables c.in_ok-book.book.settings
+            (subst (λ m. AreDerivedRows m read.tables c.in-Ok.read.1) c.in_ok-book.was read.theirs)
             made.right made.kept;
       };
       kept = made.kept;
@@ -26,7 +29,7 @@ pub returns-in_err-compare_rows-clause-refused : goal.returns-in_err-compare_row
 returns-in_err-compare_rows-clause-refused g c clean opened =
     let db : Database = (state g.S.Store c.args.conn.now).now in
     let read = c.in-Ok.ensures.rows clean opened c.requires.settled in
-    let made = if_ok c.in-Ok.read.0 _ c.in_ok-book.book c.in_ok-book.was read.ok in
+    let made = if_ok c.in-Ok.read.0 _ c.in_ok-book.book c.in_ok-book.was read.replayed.ok in
     let p = err_from_is_err_and c.from_residual-in_err-compare_rows.result
     c.from_residual-in_err-compare_rows.ensures.1 in
     rw (p.1, p.2) (refused_for db read.tables (record {
@@ -34,7 +37,8 @@ returns-in_err-compare_rows-clause-refused g c clean opened =
       has = read.has;
       in_order = read.in_order;
     }) c.in_err-compare_rows.field-0.0
-    (c.in_err-compare_rows.ensures.err read.tables c.in_ok-book.book.settings read.theirs made.head
+    (c.in_err-compare_rows.ensures.err read.tables c.in_ok-book.book.settings
+    (subst (λ m. AreDerivedRows m read.tables c.in-Ok.read.1) c.in_ok-book.was read.theirs) made.head
     made.right made.kept))
 
 pub returns-in_err-book-clause-refused : goal.returns-in_err-book-clause-refused
@@ -48,7 +52,7 @@ returns-in_err-book-clause-refused g c clean opened =
       in_order = read.in_order;
     }) c.in_err-book.field-0.0
     (if_err c.in-Ok.read.0 (IsRefusal read.tables) c.in_err-book.field-0.0 c.in_err-book.was
-    read.err))
+    (read.replayed.err read.tables refl refl)))
 
 pub returns-clause-leaves : goal.returns-clause-leaves
 returns-clause-leaves g c = c.read_tables.ensures.leaves

@@ -1,11 +1,10 @@
-use Rattle.std.proofs.Common.{◌≡◌, inl, Option, Some, None, refl, sym, subst, ◌∙◌, []}
+use Rattle.std.proofs.Common.{◌≡◌, inl, Option, Some, None, refl, sym, subst, ◌∙◌, [], ◌∷◌, ◌++◌}
 use Rattle.sqlite_value.specs.Order.{Row}
 use Rattle.std.proofs.lemmas.Result.{err_from_is_err_and}
 use Rattle.sqlite.specs.Given.{Advances, row_if}
 use Rattle.s10_statements.proofs.RowByRow.{failed_leaves, begun_spares, begun, stepped, stopped}
 use Rattle.s10_statements.proofs.RowByRow.{ended, failed_moves, zip_push, on_err, if_err}
 use Rattle.s10_statements.proofs.streams.stream_rows.Goals as goal
-use Rattle.std.specs.List.{AllZip}
 
 pub rows-init : goal.rows-init
 rows-init g c =
@@ -14,7 +13,7 @@ rows-init g c =
       same_reference = refl;
       so_far = begun g.S.Store c.args.sql.now [] c.requires.plain _
           c.args.conn.now c.in_ok-shown.shown.conn.now made.mode made.survives made.begun
-          (subst (λ xs. AllZip g.T.StreamedRow.is_shown_as xs []) (sym c.new-typed.ensures.items) tt);
+          ([], tt, g.met.K.RowSink.none c.args.sink.now);
     }
 
 pub rows-preserved : goal.rows-preserved
@@ -24,15 +23,19 @@ rows-preserved g c =
     let row = c.in-Some.row.now in
     let some : row_if c.advance.new.self.has_row now ≡ Some row =
     sym (rw c.in-Some.is at c.get.ensures) in
+    let next = c.in_ok-read.field-0 in
     record {
       same_reference = moved.same_reference ∙ c.rows.invariant.same_reference;
       so_far = stepped c.requires.plain c.rows.invariant.so_far now moved.mode moved.survives row
-          (AllZip g.T.StreamedRow.is_shown_as c.push.new.self.items) moved.same
+          _ moved.same
           (λ sure. subst (λ (r : Option Row). Advances g.S.Store c.rows.shown.conn.now now r)
           some (moved.ok sure))
-          (λ rows was. zip_push g.T.StreamedRow.is_shown_as c.rows.typed.items
-          c.push.new.self.items c.in_ok-read.field-0 rows row c.in_ok-push.ensures.items was
-          c.in_ok-read.ensures);
+          (λ rows was. (
+            was.0 ++ next ∷ [],
+            zip_push g.T.StreamedRow.is_shown_as was.0 (was.0 ++ next ∷ []) next rows row refl
+                was.1 c.in_ok-read.ensures,
+            c.take.ensures c.args.sink.now was.0 was.2,
+          ));
     }
 
 pub returns-in_err-shown : goal.returns-in_err-shown
@@ -84,21 +87,6 @@ returns-in_err-read g c =
       rows = λ clean. rw err tt;
     })
 
-pub returns-in_err-push : goal.returns-in_err-push
-returns-in_err-push g c =
-    let moved = c.in_ok-advance.ensures in
-    let it = stopped c.requires.plain c.rows.invariant.so_far c.advance.new.self.conn.now moved.mode
-    moved.survives (λ sure. inl (moved.same sure)) in
-    let err = (err_from_is_err_and c.from_residual-in_err-push.result
-    c.from_residual-in_err-push.ensures.1).1 in
-    rw (c.conn-in_err-push-1.given.1 (sym (moved.same_reference ∙ c.rows.invariant.same_reference
-    ∙ c.in_ok-shown.ensures.same_reference)) ∙ c.drop-shown-in_err-push.ensures) (record {
-      leaves = it.0;
-      spares = it.1;
-      opened = λ clean. rw err tt;
-      rows = λ clean. rw err tt;
-    })
-
 pub returns-in_default : goal.returns-in_default
 returns-in_default g c =
     let now = c.advance.new.self.conn.now in
@@ -112,10 +100,11 @@ returns-in_default g c =
       leaves = it.0;
       spares = it.1;
       opened = λ clean. (moved.same clean).0.is_open;
-      rows = λ clean has. ended c.requires.plain c.rows.invariant.so_far now moved.mode
-          moved.survives
+      rows = λ clean has.
+          let found = ended c.requires.plain c.rows.invariant.so_far now moved.mode moved.survives
           (λ sure. subst (λ (r : Option Row). Advances g.S.Store c.rows.shown.conn.now now r) none
-          (moved.ok sure)) clean has;
+          (moved.ok sure)) clean has in
+          (found.0, found.1, found.2.0, found.2.1, found.2.2);
     })
 
 pub returns : goal.returns

@@ -1,0 +1,25 @@
+-- Defines when rows of serials match those of a book.
+use Rattle.std.specs.Prelude.{◌≡◌, ◌↔◌, ◌+◌, ◌≤◌, List, [], length, All, Contains, Ok, IsTrue, None}
+use Rattle.std.specs.List.{last_or}
+use Rattle.std.specs.declared.cmp.Ordering.TheVariants.{Less}
+use Rattle.s10_rows.specs.declared.serial_row.SerialRow.{SerialRow}
+use Rattle.s10_rows.specs.Tables.{serial_rows, serial_row_cmp}
+use Rattle.s10_replay.specs.Ascending.{IsAscending}
+use Rattle.s10_index.specs.declared.indexed_book.IndexedBook.{IndexedBook}
+use Rattle.s10_ledger.specs.declared.opening.serial_match.SerialMatch.{SerialMatch}
+
+-- The rows match the made ones if they rise, each is one of these, and there are at most as many.
+-- As long as they do, what is left and the last row are known.
+pub record IsMatchOf (made rows : List SerialRow) (m : SerialMatch) : Type 0 where
+  pub verdict : IsTrue m.is_match ↔ (IsAscending (λ a b. serial_row_cmp a b ≡ Less) rows
+      × All (Contains made) rows × (length rows ≤ length made))
+  pub left : IsTrue m.is_match → m.left + length rows ≡ length made
+  pub last : IsTrue m.is_match → m.last ≡ last_or None rows
+
+-- The second comparison is the first one after it took these rows.
+pub record HasTakenSerials (start : SerialMatch) (rows : List SerialRow) (now : SerialMatch) :
+    Type 0 where
+  pub made : now.made ≡ start.made
+  pub matched : (book : IndexedBook) → start.made.now ≡ Ok book
+      → IsMatchOf (serial_rows book.index.entries.items) [] start
+      → IsMatchOf (serial_rows book.index.entries.items) rows now
