@@ -57,7 +57,7 @@ held_below after customer s c r small h =
     omega (arith, small, h.holder, pairs)
 
 -- The held ranges are those from the cut up to the stop.
-pub record IsBlock (rs : List Range) (order : List ℕ) (after customer : ℕ) (s c : ℕ × ℕ)
+pub record IsHeldRun (rs : List Range) (order : List ℕ) (after customer : ℕ) (s c : ℕ × ℕ)
     (start stop low : ℕ) : Type 0 where
   pub cut : IsCut rs order after customer s c start low
   pub fits : stop ≤ length order
@@ -66,26 +66,26 @@ pub record IsBlock (rs : List Range) (order : List ℕ) (after customer : ℕ) (
   pub above : (j : ℕ) (d : Range) → stop ≤ j → j < length order
       → holder_key customer s c 4294967296 ≤ key_by Holder (range_at rs order j d)
 
-block_held : (rs : List Range) (order : List ℕ) (after customer : ℕ) (s c : ℕ × ℕ)
-    (start stop low : ℕ) → IsBlock rs order after customer s c start stop low → (j : ℕ) (d : Range)
+held_run_parts : (rs : List Range) (order : List ℕ) (after customer : ℕ) (s c : ℕ × ℕ)
+    (start stop low : ℕ) → IsHeldRun rs order after customer s c start stop low → (j : ℕ) (d : Range)
     → start ≤ j → j < stop → IsHeld after customer s c (range_at rs order j d)
-block_held rs order after customer s c start stop low block j d from upto =
-    let inside : j < length order = omega (arith, upto, block.fits) in
-    let at = block.cut.sound (get_or order j 0) d (block.cut.held.places j inside) in
-    let key = block.cut.above j d from inside in
-    held_within after customer s c (range_at rs order j d) block.cut.service block.cut.country
-    at.fitting at.small (omega (arith, key, block.cut.key_is)) (block.below j d upto)
+held_run_parts rs order after customer s c start stop low run j d from upto =
+    let inside : j < length order = omega (arith, upto, run.fits) in
+    let at = run.cut.sound (get_or order j 0) d (run.cut.held.places j inside) in
+    let key = run.cut.above j d from inside in
+    held_within after customer s c (range_at rs order j d) run.cut.service run.cut.country
+    at.fitting at.small (omega (arith, key, run.cut.key_is)) (run.below j d upto)
 
-block_upto : (rs : List Range) (order : List ℕ) (after customer : ℕ) (s c : ℕ × ℕ)
-    (start stop low : ℕ) → IsBlock rs order after customer s c start stop low → (j : ℕ) (d : Range)
+held_run_upto : (rs : List Range) (order : List ℕ) (after customer : ℕ) (s c : ℕ × ℕ)
+    (start stop low : ℕ) → IsHeldRun rs order after customer s c start stop low → (j : ℕ) (d : Range)
     → j < length order → is_held_after after customer s c (range_at rs order j d) ≡ true → j < stop
-block_upto rs order after customer s c start stop low block j d inside hit =
-    let at = block.cut.sound (get_or order j 0) d (block.cut.held.places j inside) in
+held_run_upto rs order after customer s c start stop low run j d inside hit =
+    let at = run.cut.sound (get_or order j 0) d (run.cut.held.places j inside) in
     let key = held_below after customer s c (range_at rs order j d) at.small
     (held_parts after customer s c (range_at rs order j d) hit) in
     elim (cases_lt j stop) [
       | inl lt ↦ lt
-      | inr ge ↦ let high = block.above j d ge inside in absurd (omega (arith, key, high))
+      | inr ge ↦ let high = run.above j d ge inside in absurd (omega (arith, key, high))
     ]
 
 both_hold : (p : Range → Bool) (after customer : ℕ) (s c : ℕ × ℕ) (r : Range)
@@ -105,35 +105,35 @@ both_from p after customer s c r held passes =
     and_from (ltb after r.num) (is_held customer s c r && p r) one.0
     (and_from (is_held customer s c r) (p r) one.1 passes)
 
--- The first range of the block that passes is found.
-pub block_found : (rs : List Range) (order : List ℕ) (after customer : ℕ) (s c : ℕ × ℕ)
+-- The first range of the run that passes is found.
+pub held_run_found : (rs : List Range) (order : List ℕ) (after customer : ℕ) (s c : ℕ × ℕ)
     (start stop low : ℕ) (p : Range → Bool) (m : ℕ) (r : Range)
-    → IsBlock rs order after customer s c start stop low → start ≤ m → m < stop
+    → IsHeldRun rs order after customer s c start stop low → start ≤ m → m < stop
     → get_or rs (get_or order m 0) r ≡ r → p r ≡ true
     → ((j : ℕ) (d : Range) → start ≤ j → j < m → p (range_at rs order j d) ≡ false)
     → find (above (λ x. is_held customer s c x && p x) after) rs ≡ Some r
-block_found rs order after customer s c start stop low p m r block from upto is passes none =
-    let inside : m < length order = omega (arith, upto, block.fits) in
+held_run_found rs order after customer s c start stop low p m r run from upto is passes none =
+    let inside : m < length order = omega (arith, upto, run.fits) in
     let here : (d : Range) → range_at rs order m d ≡ r = λ d. at_place rs (get_or order m 0) d r
-    (block.cut.held.places m inside) is in
+    (run.cut.held.places m inside) is in
     let held : IsHeld after customer s c r = subst (IsHeld after customer s c) (here r)
-    (block_held rs order after customer s c start stop low block m r from upto) in
-    first_in_order (key_by Holder) (key_by Holder) rs order block.cut.held
+    (held_run_parts rs order after customer s c start stop low run m r from upto) in
+    first_in_order (key_by Holder) (key_by Holder) rs order run.cut.held
     (above (λ x. is_held customer s c x && p x) after) m r inside is
     (both_from p after customer s c r held passes)
     (λ j d lt also.
     let two = both_hold p after customer s c (range_at rs order j d) also in
-    let ge = not_before rs order after customer s c start low block.cut j d two.0 in
+    let ge = not_before rs order after customer s c start low run.cut j d two.0 in
     let num_here : (range_at rs order m d).num ≡ r.num = ap (λ (x : Range). x.num) (here d) in
     let key_here : key_by Holder (range_at rs order m d) ≡ key_by Holder r =
     ap (key_by Holder) (here d) in
-    let one = block.cut.sound (get_or order m 0) d (block.cut.held.places m inside) in
-    let other = block.cut.sound (get_or order j 0) d (block.cut.held.places j lt) in
+    let one = run.cut.sound (get_or order m 0) d (run.cut.held.places m inside) in
+    let other = run.cut.sound (get_or order j 0) d (run.cut.held.places j lt) in
     elim (cases_lt j m) [
       | inl before ↦ absurd (both_ways (p (range_at rs order j d)) (none j d ge before) two.1)
       | inr le ↦ elim (cases_lt m j) [
         | inl gt ↦
-            let up = block.cut.held.apart m j d gt lt in
+            let up = run.cut.held.apart m j d gt lt in
             let nums = held_order after customer s c r (range_at rs order j d) held
             (held_parts after customer s c (range_at rs order j d) two.0)
             (omega (arith, up, key_here)) in
@@ -143,19 +143,19 @@ block_found rs order after customer s c start stop low p m r block from upto is 
       ]
     ])
 
--- If no range of the block passes, none is found.
-pub block_none : (rs : List Range) (order : List ℕ) (after customer : ℕ) (s c : ℕ × ℕ)
-    (start stop low : ℕ) (p : Range → Bool) → IsBlock rs order after customer s c start stop low
+-- If no range of the run passes, none is found.
+pub held_run_none : (rs : List Range) (order : List ℕ) (after customer : ℕ) (s c : ℕ × ℕ)
+    (start stop low : ℕ) (p : Range → Bool) → IsHeldRun rs order after customer s c start stop low
     → ((j : ℕ) (d : Range) → start ≤ j → j < stop → p (range_at rs order j d) ≡ false)
     → find (above (λ x. is_held customer s c x && p x) after) rs ≡ None
-block_none rs order after customer s c start stop low p block none =
-    none_in_order (key_by Holder) (key_by Holder) rs order block.cut.held
+held_run_none rs order after customer s c start stop low p run none =
+    none_in_order (key_by Holder) (key_by Holder) rs order run.cut.held
     (above (λ x. is_held customer s c x && p x) after)
     (λ j d lt. false_from_ne_true (above (λ x. is_held customer s c x && p x) after
     (range_at rs order j d)) (λ also.
     let two = both_hold p after customer s c (range_at rs order j d) also in
-    let ge = not_before rs order after customer s c start low block.cut j d two.0 in
-    let upto = block_upto rs order after customer s c start stop low block j d lt two.0 in
+    let ge = not_before rs order after customer s c start low run.cut j d two.0 in
+    let upto = held_run_upto rs order after customer s c start stop low run j d lt two.0 in
     both_ways (p (range_at rs order j d)) (none j d ge upto) two.1))
 
 -- Whether the range at a position of the order rests, by its index.

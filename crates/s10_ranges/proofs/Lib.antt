@@ -4,6 +4,9 @@ pub mod HeldOrder
 pub mod Placing
 pub mod Pushing
 pub mod Leasts
+pub mod Blocks
+pub mod BlockLeasts
+pub mod BlockSearch
 pub mod Turning
 pub mod Marked
 pub mod Following

@@ -1,5 +1,7 @@
 pub mod Keys
 pub mod Order
+pub mod Blocks
+pub mod BlockList
 pub mod Sound
 pub mod Room
 pub mod Laps

@@ -1,6 +1,6 @@
 -- Defines sorted orders of ranges, given by their indices.
-use Rattle.std.specs.Prelude.{◌≡◌, ℕ, ◌<◌, ◌≤◌, List, length, Option, Some, None, slice_index}
-use Rattle.std.specs.Prelude.{slice_index_or}
+use Rattle.std.specs.Prelude.{◌≡◌, ℕ, ◌<◌, ◌≤◌, List, length, min, Option, Some, None}
+use Rattle.std.specs.Prelude.{slice_index, slice_index_or}
 use Rattle.s10_history.specs.declared.range.Range.{Range}
 
 -- The range whose index is at position j of the order, or the default if there is none.
@@ -31,3 +31,9 @@ IsLeastIn order start end None = end ≤ start
 IsLeastIn order start end (Some m) =
     ((j : ℕ) → start ≤ j → j < end → m ≤ slice_index order j) × ((j : ℕ) × (start ≤ j) × (j < end)
     × (slice_index order j ≡ m))
+
+-- The lesser of two indices, or the one that there is.
+abbrev pub lesser_of : Option ℕ → Option ℕ → Option ℕ
+lesser_of None other = other
+lesser_of (Some m) None = Some m
+lesser_of (Some m) (Some n) = Some (min m n)

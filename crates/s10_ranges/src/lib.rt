@@ -2,7 +2,11 @@
 //! held in memory and sorted for look-ups by serial and by holder.
 #![tactic(auto)]
 
+mod block;
+mod block_list;
+mod block_search;
 mod closed_ranges;
+mod cursor;
 mod hash_seed;
 mod insertion;
 mod keys;

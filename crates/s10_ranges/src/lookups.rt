@@ -5,13 +5,15 @@ ghost use Rattle.s10_history.specs.History.{is_held_after, overlaps};
 ghost use Rattle.s10_ranges.specs.Rests.{is_awake_after, is_resting_at as rests_at};
 ghost use Rattle.s10_ranges.specs.declared.rest.Rest.TheVariants.{Unknown};
 ghost use Rattle.s10_ranges.specs.declared.sort_key.SortKey.TheVariants.{First, Last, Holder};
+ghost use Rattle.s10_ranges.specs.BlockList.{indices_of};
 ghost use Rattle.s10_ranges.specs.Keys.{key_by};
 ghost use Rattle.s10_ranges.specs.Order.{IsOrder};
 ghost use Rattle.s10_ranges.specs.Sound.{AreSound};
 
+use crate::block_list::BlockList;
+use crate::block_search::cursor_at;
 use crate::keys::{holder_sort_key, serial_sort_key};
 use crate::mark::Mark;
-use crate::order::{first_at, least_in};
 use crate::rest::Rest;
 use crate::sort_key::SortKey;
 use s10_core::{Country, Serial, Service};
@@ -44,22 +46,20 @@ fn is_later(range: &Range, after: u32, customer: u32, service: Service, country:
 
 pub(crate) fn next_held_in(
     ranges: &[Range],
-    by_holder: &[u32],
+    by_holder: &BlockList,
     customer: u32,
     service: Service,
     country: Country,
     after: u32,
 ) -> Option<Range>
     requires sound { AreSound ranges.now }
-    requires held { IsOrder (key_by Holder) (key_by Holder) ranges.now by_holder.now }
+    requires held { IsOrder (key_by Holder) (key_by Holder) ranges.now (indices_of by_holder.now) }
     ensures { result ≡ find (is_held_after after customer service country) ranges.now }
 {
     let key = holder_sort_key(customer, service, country, u128::from(after) + 1);
-    let at = first_at(ranges, by_holder, SortKey::Holder, key);
-    if at == by_holder.len() {
-        return None;
-    }
-    let range = &ranges[by_holder[at] as usize];
+    let cursor = cursor_at(ranges, by_holder, SortKey::Holder, key);
+    let place = by_holder.at(cursor)?;
+    let range = &ranges[place as usize];
     if is_later(range, after, customer, service, country) {
         Some(*range)
     } else {
@@ -82,7 +82,7 @@ fn is_resting_at(marks: &[Mark], rests: &[Rest], place: usize, day: u32, interva
 // Returns the awake range of the holder key with the least number above `after`.
 pub(crate) fn next_awake_in(
     ranges: &[Range],
-    by_holder: &[u32],
+    by_holder: &BlockList,
     marks: &[Mark],
     rests: &[Rest],
     held: &HolderKey,
@@ -91,7 +91,7 @@ pub(crate) fn next_awake_in(
     interval: u32,
 ) -> Option<Range>
     requires sound { AreSound ranges.now }
-    requires held { IsOrder (key_by Holder) (key_by Holder) ranges.now by_holder.now }
+    requires held { IsOrder (key_by Holder) (key_by Holder) ranges.now (indices_of by_holder.now) }
     ensures { result ≡ find (is_awake_after marks.now rests.now after held.now.holder
         held.now.service held.now.country day interval) ranges.now }
 {
@@ -101,38 +101,42 @@ pub(crate) fn next_awake_in(
         held.country,
         u128::from(after) + 1,
     );
-    let start = first_at(ranges, by_holder, SortKey::Holder, low);
+    let mut cursor = cursor_at(ranges, by_holder, SortKey::Holder, low);
     let high = holder_sort_key(held.holder, held.service, held.country, 4_294_967_296);
-    let end = first_at(ranges, by_holder, SortKey::Holder, high);
-    for at in start..end {
-        let place = by_holder[at] as usize;
+    let end = cursor_at(ranges, by_holder, SortKey::Holder, high);
+    while let Some(index) = by_holder.at(cursor) {
+        if !cursor.is_before(end) {
+            return None;
+        }
+        let place = index as usize;
         if !is_resting_at(marks, rests, place, day, interval) {
             return Some(ranges[place]);
         }
+        cursor = by_holder.cursor_after(cursor);
     }
     None
 }
 
 pub(crate) fn covering_in(
     ranges: &[Range],
-    by_serial: &[u32],
+    by_serial: &BlockList,
     service: Service,
     country: Country,
     first: Serial,
     last: Serial,
 ) -> Option<Range>
     requires sound { AreSound ranges.now }
-    requires placed { IsOrder (key_by First) (key_by Last) ranges.now by_serial.now }
+    requires placed { IsOrder (key_by First) (key_by Last) ranges.now (indices_of by_serial.now) }
     ensures { result ≡ find (overlaps service country first last) ranges.now }
 {
     if last.value() < first.value() {
         return None;
     }
     let low = serial_sort_key(service, country, first);
-    let start = first_at(ranges, by_serial, SortKey::Last, low);
+    let start = cursor_at(ranges, by_serial, SortKey::Last, low);
     let high = serial_sort_key(service, country, last) + 1;
-    let end = first_at(ranges, by_serial, SortKey::First, high);
-    match least_in(by_serial, start, end) {
+    let end = cursor_at(ranges, by_serial, SortKey::First, high);
+    match by_serial.least_in(start, end) {
         None => None,
         Some(place) => Some(ranges[place as usize]),
     }

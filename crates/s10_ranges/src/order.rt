@@ -4,6 +4,7 @@ ghost use Rattle.std.specs.Prelude.{◌≡◌, ℕ, ◌<◌, ◌≤◌, length, 
 ghost use Rattle.s10_history.specs.declared.range.Range.{Range};
 ghost use Rattle.s10_ranges.specs.Keys.{key_by};
 ghost use Rattle.s10_ranges.specs.Order.{range_at, AreIndices, IsRising, IsLeastIn};
+ghost use Rattle.s10_ranges.specs.Order.{lesser_of};
 
 use crate::keys::sort_key_of;
 use crate::sort_key::SortKey;
@@ -49,4 +50,15 @@ pub(crate) fn least_in(order: &[u32], start: usize, end: usize) -> Option<u32>
 {
     let part = order.get(start..end)?;
     least(part)
+}
+
+// Returns the lesser of two indices, or the one that there is.
+pub(crate) fn lesser(one: Option<u32>, other: Option<u32>) -> Option<u32>
+    ensures { result ≡ lesser_of one other }
+{
+    match (one, other) {
+        (Some(a), Some(b)) => Some(a.min(b)),
+        (Some(a), None) => Some(a),
+        (None, other) => other,
+    }
 }

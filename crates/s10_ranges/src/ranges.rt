@@ -4,14 +4,16 @@ ghost use Rattle.std.specs.Prelude.{◌≡◌, ◌≤◌, ◌<◌, ◌+◌, ◌-
 ghost use Rattle.std.specs.Prelude.{set, None, OnOk, slice_get};
 ghost use Rattle.s10_history.specs.History.{is_held_after, overlaps};
 ghost use Rattle.s10_ranges.specs.declared.sort_key.SortKey.TheVariants.{First, Last, Holder};
+ghost use Rattle.s10_ranges.specs.BlockList.{indices_of};
 ghost use Rattle.s10_ranges.specs.Keys.{key_by};
 ghost use Rattle.s10_ranges.specs.Order.{IsOrder};
 ghost use Rattle.s10_ranges.specs.Sound.{AreSound};
 ghost use Rattle.std.specs.HashSet.{hasher_of};
 
+use crate::block_list::BlockList;
 use crate::closed_ranges::ClosedRanges;
 use crate::hash_seed::HashSeed;
-use crate::insertion::{index_by_holder, index_by_serial};
+use crate::insertion::{cursor_by_holder, cursor_by_serial};
 use crate::lap::Lap;
 use crate::lap_at::lap_at;
 use crate::lookups::{covering_in, mark_in, next_awake_in, next_held_in, range_in};
@@ -27,8 +29,10 @@ use std::alloc::{AllocError, Global};
 /// The ranges of a ledger, each with its mark, and the set of closed ranges.
 ///
 /// Ranges are numbered from 1, and no two share a serial. Each binary search takes O(log n) steps
-/// for n ranges. `covering_range` takes one step more per range that overlaps the span.
-/// `next_open_range` makes one search more per closed range before the one that it finds.
+/// for n ranges. An added range moves at most 512 indices in each order and, if that splits a block,
+/// n / 256 blocks, so grants cost about the same in any order. `covering_range` reads the least
+/// index of each block that the span covers, and at most 1,024 other indices. `next_open_range`
+/// makes one search more per closed range before the one that it finds.
 #[derive(Drop)]
 pub struct Ranges {
     /// The ranges in order of their numbers: range n has the index n - 1.
@@ -36,15 +40,15 @@ pub struct Ranges {
     /// The marks, with the same indices.
     marks: Vec<Mark>,
     /// The indices of the ranges, sorted by service, country and serials.
-    by_serial: Vec<u32>,
+    by_serial: BlockList,
     /// The indices of the ranges, sorted by holder, service, country and number.
-    by_holder: Vec<u32>,
+    by_holder: BlockList,
     /// The numbers of the closed ranges.
     closed: ClosedRanges,
     ghost sound: { AreSound ranges.items },
     ghost marked: { length marks.items ≡ length ranges.items },
-    ghost placed: { IsOrder (key_by First) (key_by Last) ranges.items by_serial.items },
-    ghost held: { IsOrder (key_by Holder) (key_by Holder) ranges.items by_holder.items },
+    ghost placed: { IsOrder (key_by First) (key_by Last) ranges.items (indices_of by_serial) },
+    ghost held: { IsOrder (key_by Holder) (key_by Holder) ranges.items (indices_of by_holder) },
 }
 
 impl Ranges {
@@ -71,8 +75,8 @@ impl Ranges {
         Ranges {
             ranges: Vec::new(alloc),
             marks: Vec::new(alloc),
-            by_serial: Vec::new(alloc),
-            by_holder: Vec::new(alloc),
+            by_serial: BlockList::new(alloc),
+            by_holder: BlockList::new(alloc),
             closed: ClosedRanges::new(alloc, seed),
         }
     }
@@ -88,8 +92,8 @@ impl Ranges {
     {
         self.ranges.reserve(1)?;
         self.marks.reserve(1)?;
-        self.by_serial.reserve(1)?;
-        self.by_holder.reserve(1)?;
+        self.by_serial.reserve()?;
+        self.by_holder.reserve()?;
         self.closed.reserve()
     }
 
@@ -107,10 +111,10 @@ impl Ranges {
         ensures closed { self.new.closed ≡ self.old.closed }
     {
         let place = self.ranges.len() as u32;
-        let place_at = index_by_serial(&self.ranges, &self.by_serial, &range);
-        let held_at = index_by_holder(&self.ranges, &self.by_holder, &range);
-        let _ = self.by_serial.insert(place_at, place);
-        let _ = self.by_holder.insert(held_at, place);
+        let placed_at = cursor_by_serial(&self.ranges, &self.by_serial, &range);
+        let held_at = cursor_by_holder(&self.ranges, &self.by_holder, &range);
+        self.by_serial.insert_reserved(placed_at, place);
+        self.by_holder.insert_reserved(held_at, place);
         self.ranges.push_reserved(range);
         self.marks.push_reserved(mark);
     }
