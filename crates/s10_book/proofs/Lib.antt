@@ -28,3 +28,4 @@ pub mod Determined
 pub mod Making
 pub mod Overlapping
 pub mod Passing
+pub mod Narrowing

@@ -20,7 +20,7 @@ use Rattle.s10_history.specs.History.{ranges_of, is_open, ranges_open, lies_in}
 use Rattle.s10_history.specs.Issues.{issues_of, last_issuance_of, is_free_since, pick_of, id_at}
 use Rattle.s10_history.specs.Issues.{serial_after, serial_after_steps, size_of, candidate_after_of}
 use Rattle.s10_history.specs.Issues.{free_pick_of}
-use Rattle.s10_book.specs.Rules.{IsLegal, has_free_pick, successive_draws}
+use Rattle.s10_book.specs.Rules.{IsLegal, has_free_pick, is_free_range, successive_draws}
 use Rattle.std.proofs.lemmas.Option.{none-some, same_Some}
 use Rattle.s10_history.proofs.Numbering.{above, Numbered, numbered, filter_above, next_above}
 use Rattle.s10_history.proofs.Numbering.{filter_none, Contains-find, found_passes}
@@ -36,6 +36,7 @@ use Rattle.s10_history.proofs.After.{IsAfterSteps, behind, after_within, after_a
 use Rattle.s10_book.proofs.Rows.{candidate_after_is, Ready, outside_other, ready_next, pick_outside}
 use Rattle.s10_book.proofs.Rows.{last_other, last_outside, picks_here, picks_past}
 use Rattle.s10_book.proofs.Picking.{picks}
+use Rattle.s10_book.proofs.Narrowing.{picks_narrowed}
 
 -- A range from which nothing was taken.
 pub record Untouched (s : Range) (old is : List Issuance) : Type 0 where
@@ -444,40 +445,54 @@ pub row_of : (h : List Entry) (customer : ℕ) (s c : ℕ × ℕ) (day n count :
 row_of h customer s c day n count = row_is (drawn_on day) customer s c day n (λ x. refl) (λ x. refl)
     count h (issues_of h) (alike_itself (issues_of h))
 
+-- Successive Draws take their picks from the ranges whose pick is free before them.
+pub free_row_of : (h : List Entry) (t : Terms) (customer : ℕ) (s c : ℕ × ℕ) (day n count : ℕ)
+    → IsLegal h t → successive_draws h customer s c day n count ≡ picks (drawn_on day) day n
+    (filter (is_free_range h customer s c day n) (ranges_of h)) (issues_of h) count
+free_row_of h t customer s c day n count legal =
+    row_of h customer s c day n count
+    ∙ picks_narrowed (drawn_on day) day n (ranges_of h) (is_open h customer s c) (issues_of h)
+    (issues_of h) count (λ x. refl) (apart h t legal) (all_at_pick h t legal) (λ k d lt used. used)
+
 -- The walk has enough picks.
-pub walked : (h : List Entry) (customer : ℕ) (s c : ℕ × ℕ) (day n count : ℕ) (r : Range) (k : ℕ)
-    (taken : List Id) → count ≤ length taken
-    → IsAt (ranges_of h) (is_open h customer s c) (drawn_on day) day n (issues_of h) count r k taken
+pub walked : (h : List Entry) (t : Terms) (customer : ℕ) (s c : ℕ × ℕ) (day n count : ℕ) (r : Range)
+    (k : ℕ) (taken : List Id) → IsLegal h t → count ≤ length taken
+    → IsAt (ranges_of h) (is_free_range h customer s c day n) (drawn_on day) day n (issues_of h)
+    count r k taken
     → Some taken ≡ successive_draws h customer s c day n count
-walked h customer s c day n count r k taken enough at =
-    sym (row_of h customer s c day n count ∙ at_end (ranges_of h) (is_open h customer s c)
-    (drawn_on day) day n (issues_of h) count r k taken enough at)
+walked h t customer s c day n count r k taken legal enough at =
+    sym (free_row_of h t customer s c day n count legal
+    ∙ at_end (ranges_of h) (is_free_range h customer s c day n) (drawn_on day) day n (issues_of h)
+    count r k taken enough at)
 
 -- No range remains before there are enough picks.
 pub walked_out : (h : List Entry) (t : Terms) (customer : ℕ) (s c : ℕ × ℕ) (day n count : ℕ)
     (r : Range) (k : ℕ) (taken : List Id) → IsLegal h t → 1 ≤ n → length taken < count
     → has_free_pick (issues_of h ++ map (drawn_on day) taken) day n r ≡ false
-    → find (above (is_open h customer s c) r.num) (ranges_of h) ≡ None
-    → IsAt (ranges_of h) (is_open h customer s c) (drawn_on day) day n (issues_of h) count r k taken
+    → find (above (is_free_range h customer s c day n) r.num) (ranges_of h) ≡ None
+    → IsAt (ranges_of h) (is_free_range h customer s c day n) (drawn_on day) day n (issues_of h)
+    count r k taken
     → None ≡ successive_draws h customer s c day n count
 walked_out h t customer s c day n count r k taken legal pos few spent none at =
-    sym (row_of h customer s c day n count
-    ∙ at_last (ranges_of h) (is_open h customer s c) (drawn_on day) day n (issues_of h) count r k
-    taken (given_legal h t day n legal pos) spent none few at)
+    sym (free_row_of h t customer s c day n count legal
+    ∙ at_last (ranges_of h) (is_free_range h customer s c day n) (drawn_on day) day n (issues_of h)
+    count r k taken (given_legal h t day n legal pos) spent none few at)
 
 pub no_picks : (day n count : ℕ) (is : List Issuance) → 1 ≤ count
     → picks (drawn_on day) day n [] is count ≡ None
 no_picks day n zero is some = absurd (omega (arith, some))
 no_picks day n (suc k) is some = refl
 
--- There is no range at all.
-pub walked_nowhere : (h : List Entry) (customer : ℕ) (s c : ℕ × ℕ) (day n count : ℕ) → 1 ≤ count
-    → find (above (is_open h customer s c) 0) (ranges_of h) ≡ None
+-- There is no range whose pick is free.
+pub walked_nowhere : (h : List Entry) (t : Terms) (customer : ℕ) (s c : ℕ × ℕ) (day n count : ℕ)
+    → IsLegal h t → 1 ≤ count
+    → find (above (is_free_range h customer s c day n) 0) (ranges_of h) ≡ None
     → None ≡ successive_draws h customer s c day n count
-walked_nowhere h customer s c day n count some none =
-    let empty : ranges_open h customer s c ≡ [] =
-    sym (filter_above (is_open h customer s c) 0 1 (ranges_of h) (omega arith) (numbered 1 h))
-    ∙ filter_none (above (is_open h customer s c) 0) (ranges_of h) none in
-    sym (row_of h customer s c day n count
+walked_nowhere h t customer s c day n count legal some none =
+    let p : Range → Bool = is_free_range h customer s c day n in
+    let empty : filter p (ranges_of h) ≡ [] =
+    sym (filter_above p 0 1 (ranges_of h) (omega arith) (numbered 1 h))
+    ∙ filter_none (above p 0) (ranges_of h) none in
+    sym (free_row_of h t customer s c day n count legal
     ∙ ap (λ l. picks (drawn_on day) day n l (issues_of h) count) empty
     ∙ no_picks day n count (issues_of h) some)

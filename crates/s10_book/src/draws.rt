@@ -1,8 +1,9 @@
 //! The identifiers of successive Draws.
 
-ghost use Rattle.std.specs.Prelude.{ℕ, ◌≡◌, length, IfOk, IfSome, Contains};
+ghost use Rattle.std.specs.Prelude.{ℕ, ◌≡◌, ◌<◌, length, find, IfOk, IfSome, Contains};
 ghost use Rattle.s10_history.specs.History.{ranges_of};
 ghost use Rattle.s10_history.specs.Issues.{free_pick_of};
+ghost use Rattle.s10_book.specs.Rules.{is_free_after};
 ghost use Rattle.s10_book.specs.Rules.{successive_draws as successive_draws_of};
 ghost use Rattle.s10_book.specs.BookFault.{CountsResult};
 ghost use Rattle.s10_book.specs.Book.{Unchanged};
@@ -39,6 +40,28 @@ fn free_pick<B: Book>(
     Ok(Some(range.id(candidate.serial)))
 }
 
+// Returns the open range of the holder key with the least number above `after` whose pick is free.
+// Only a store that fails finds one whose number is not above: that counts as none, so that a walk
+// over the ranges ends.
+fn next_free_after<B: Book>(
+    book: &mut B,
+    held: &HolderKey,
+    after: u32,
+    day: u32,
+) -> Result<Option<Range>, BookFault>
+    ensures reads { Reads B.Book book.old book.new result }
+    ensures above { IfOk result (λ found. IfSome found (λ r. after < r.num)) }
+    ensures answer { B.honest book.new
+        → IfOk result (λ found. found
+        ≡ find (is_free_after (B.history book.old) after held.now.holder held.now.service
+        held.now.country day (B.terms book.old).interval) (ranges_of (B.history book.old))) }
+{
+    match book.next_free_range(held, after, day)? {
+        Some(range) if after < range.num => Ok(Some(range)),
+        _ => Ok(None),
+    }
+}
+
 /// Returns the identifiers of `count` single Draws of the customer, one after another on that day.
 ///
 /// Returns `None` if one of these Draws would not be done. A returned sheet has `count`
@@ -71,7 +94,8 @@ pub fn successive_draws<B: Book>(
         service,
         country,
     };
-    let Some(mut range) = book.next_range(&held, 0)? else {
+    // A range whose pick is not free before the sheet gives it nothing.
+    let Some(mut range) = next_free_after(book, &held, 0, day)? else {
         return Ok(None);
     };
     let mut issued = 0;
@@ -82,7 +106,7 @@ pub fn successive_draws<B: Book>(
             issued += 1;
             continue;
         }
-        let Some(next) = book.next_range(&held, range.num)? else {
+        let Some(next) = next_free_after(book, &held, range.num, day)? else {
             return Ok(None);
         };
         range = next;

@@ -1,7 +1,8 @@
 use Rattle.std.proofs.Common.{◌≡◌, ◌+◌, ◌-◌, ◌*◌, ◌^◌, ◌≤◌, length}
-use Rattle.s10_history.specs.History.{ranges_of, is_open}
+use Rattle.s10_history.specs.History.{ranges_of}
 use Rattle.s10_history.specs.Issues.{issues_of}
 use Rattle.s10_book.specs.Book.{Unchanged}
+use Rattle.s10_book.specs.Rules.{is_free_range}
 use Rattle.s10_book.proofs.Taking.{IsAt, drawn_on}
 use Rattle.s10_book.proofs.draws.successive_draws.Given as goal
 
@@ -17,8 +18,8 @@ invariant-loop-held g l =
       few : length l.picks ≤ l.wanted;
       fewer : l.issued ≤ length l.picks;
       walk : g.B.Book.honest l.book
-          → IsAt (ranges_of history) (is_open history l.held.holder l.held.service l.held.country)
-          (drawn_on l.day) l.day l.interval (issues_of history) l.wanted l.range l.issued l.picks;
+          → IsAt (ranges_of history) (is_free_range history l.held.holder l.held.service
+          l.held.country l.day l.interval) (drawn_on l.day) l.day l.interval (issues_of history) l.wanted l.range l.issued l.picks;
     }
 
 abbrev pub decreases-loop-held : goal.decreases-loop-held
