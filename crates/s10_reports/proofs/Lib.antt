@@ -1,3 +1,3 @@
-mod Fields
+mod Plain
 pub mod Reporting
 mod Tallying

@@ -6,7 +6,7 @@ use Rattle.std.specs.Prelude.{filter, find, slice_get, ◌==◌, nat_le, ◌&&�
 use Rattle.std.specs.Io.KnownBytes.{Appends}
 use Rattle.std.proofs.lemmas.Bool.{cases_order, eqb-true, eqb-false, le-leb}
 use Rattle.std.proofs.Math.Seq.{take-append-add, take-append_seam, take-length}
-use Rattle.std.proofs.lemmas.Option.{none-some, same_Some, slice_get_within, get_or_from_slice_get}
+use Rattle.std.proofs.lemmas.Option.{none-some, slice_get_within, get_or_from_slice_get}
 use Rattle.std.proofs.lemmas.List.{append-nil, take_all, take_more, take-append-drop}
 use Rattle.std.proofs.lemmas.List.{take-append-le, length-take-le, map-append, map-id}
 use Rattle.std.proofs.lemmas.List.Elements.{filter-append}

@@ -1,8 +1,8 @@
 -- The tally of a ledger's ranges, one range after another.
-use Rattle.std.proofs.Common.{◌≡◌, ℕ, suc, ◌+◌, ◌≤◌, Bool, true, false, cond, List, [], ◌∷◌, ◌++◌, length, take}
-use Rattle.std.proofs.Common.{map, Some, sym, ap, ap₂, ◌∙◌, arith, sum_by}
+use Rattle.std.proofs.Common.{◌≡◌, ℕ, ◌+◌, ◌≤◌, Bool, true, false, cond, List, [], ◌∷◌, ◌++◌, length, take}
+use Rattle.std.proofs.Common.{Some, sym, ap, ap₂, ◌∙◌, arith, sum_by}
 use Rattle.std.specs.Prelude.{find, ◌==◌}
-use Rattle.std.proofs.lemmas.List.{map-id, take_all}
+use Rattle.std.proofs.lemmas.List.{take_all}
 use Rattle.std.proofs.lemmas.List.Sums.{sum_by_push}
 use Rattle.std.proofs.lemmas.Grind.{common_steps}
 use Rattle.s10_history.specs.declared.entry.Entry.{Entry}
@@ -10,7 +10,6 @@ use Rattle.s10_history.specs.declared.range.Range.{Range}
 use Rattle.s10_history.specs.declared.usage.Usage.{Usage}
 use Rattle.s10_history.specs.History.{ranges_of, is_closed}
 use Rattle.s10_history.specs.Usage.{usage_of}
-use Rattle.s10_history.proofs.Numbering.{numbered}
 use Rattle.s10_reports.specs.Info.{drawable, tally_of}
 use Rattle.s10_reports.specs.declared.info_report.Tally.{Tally}
 use Rattle.s10_reports.proofs.Reporting.{next_range}

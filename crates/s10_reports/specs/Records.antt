@@ -2,6 +2,9 @@
 -- the end of a line, so each is written as it is.
 use Rattle.std.specs.Prelude.{ℕ, Bool, true, false, List, [], ◌∷◌, ◌++◌, Option, Some, None, codes}
 use Rattle.std.specs.Prelude.{decimal}
+use Rattle.csv.specs.declared.parser.Terminator.TheVariants.{CRLF}
+use Rattle.csv.specs.declared.writer.WriterBuilder.{WriterBuilder}
+use Rattle.csv.specs.Writing.{default_writer, with_terminator}
 use Rattle.s10_core.specs.Letters.{letters_of}
 use Rattle.s10_core.specs.Serial.{digits_of}
 use Rattle.s10_core.specs.Id.{spelling_of}
@@ -11,6 +14,11 @@ use Rattle.s10_history.specs.declared.usage.Usage.{Usage}
 use Rattle.s10_history.specs.declared.issue.Issue.{Issue}
 use Rattle.s10_history.specs.declared.issuance.Issuance.{Issuance}
 use Rattle.s10_reports.specs.States.{state_of}
+
+-- The writer of csv that writes records: its default, with a carriage return and a line feed at the
+-- end of a record.
+abbrev pub record_writer : WriterBuilder
+record_writer = with_terminator default_writer CRLF
 
 -- The fields, with a comma before each.
 unfoldable pub after_commas : List (List ℕ) → List ℕ

@@ -9,7 +9,7 @@ ghost use Rattle.s10_reports.specs.Reports.{issues_report};
 ghost use Rattle.s10_reports.specs.ReportFault.{Reported, CountsReport};
 
 use crate::issue_filter::IssueFilter;
-use crate::records::write_issue_record;
+use crate::records::{write_issue_record, write_record};
 use crate::report_fault::ReportFault;
 use crate::report_format::ReportFormat;
 use crate::states::state;
@@ -17,6 +17,17 @@ use s10_book::Book;
 use s10_history::{Entry, Issuance, Issue, Range, SerialSpan};
 use s10_lines::{WriteFault, write_decimal, write_first_decimal, write_id, write_text, write_word};
 use std::io::Write;
+
+const HEADINGS: &[&[u8]] = &[
+    b"arrival",
+    b"day",
+    b"date",
+    b"customer",
+    b"number",
+    b"identifier",
+    b"range",
+    b"state",
+];
 
 /// A report of the issuances: which, and how they are written.
 #[derive(Clone, Copy, Debug, PartialEq, Eq)]
@@ -51,7 +62,7 @@ pub fn write_issues<B: Book, W: Write>(
         → Reported (W.contents out.old) (W.contents out.new)
         (issues_report report.now (B.history book.old)) result }
 {
-    write_text(heading(report.format), out)?;
+    write_heading(report.format, out)?;
     for done in 0..book.len() {
         let entry = match book.entry(done + 1)? {
             None => return Ok(()),
@@ -62,12 +73,14 @@ pub fn write_issues<B: Book, W: Write>(
     Ok(())
 }
 
-fn heading(format: ReportFormat) -> &'static [u8]
-    ensures { result.now ≡ issues_heading format }
+// Writes the heading as a line or as a record.
+fn write_heading<W: Write>(format: ReportFormat, out: &mut W) -> Result<(), WriteFault>
+    ensures { OnOk result (Appends (W.contents out.old) (W.contents out.new)
+        (issues_heading format)) }
 {
     match format {
-        ReportFormat::Lines => b"arrival day customer number identifier state\n",
-        ReportFormat::Csv => b"arrival,day,date,customer,number,identifier,range,state\r\n",
+        ReportFormat::Lines => write_text(b"arrival day customer number identifier state\n", out),
+        ReportFormat::Csv => write_record(HEADINGS, out),
     }
 }
 

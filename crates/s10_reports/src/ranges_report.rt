@@ -10,7 +10,7 @@ ghost use Rattle.s10_reports.specs.Reports.{ranges_heading, ranges_report};
 ghost use Rattle.s10_reports.specs.ReportFault.{Reported, CountsReport};
 
 use crate::range_filter::RangeFilter;
-use crate::records::write_range_record;
+use crate::records::{write_range_record, write_record};
 use crate::report_fault::ReportFault;
 use crate::report_format::ReportFormat;
 use s10_book::Book;
@@ -20,6 +20,21 @@ use s10_lines::{
     write_word,
 };
 use std::io::Write;
+
+const HEADINGS: &[&[u8]] = &[
+    b"range",
+    b"customer",
+    b"service",
+    b"country",
+    b"first",
+    b"last",
+    b"used",
+    b"voided",
+    b"free",
+    b"closed",
+    b"day",
+    b"date",
+];
 
 /// Writes a heading and a line or a record for each range that the filter admits, in order of their
 /// numbers, with its usage.
@@ -47,7 +62,7 @@ pub fn write_ranges<B: Book, W: Write>(
         (ranges_report filter.now format (B.history book.old) day (B.terms book.old).interval)
         result }
 {
-    write_text(heading(format), out)?;
+    write_heading(format, out)?;
     for done in 0..book.len() {
         let range = match book.range(done + 1)? {
             None => return Ok(()),
@@ -58,14 +73,17 @@ pub fn write_ranges<B: Book, W: Write>(
     Ok(())
 }
 
-fn heading(format: ReportFormat) -> &'static [u8]
-    ensures { result.now ≡ ranges_heading format }
+// Writes the heading as a line or as a record.
+fn write_heading<W: Write>(format: ReportFormat, out: &mut W) -> Result<(), WriteFault>
+    ensures { OnOk result (Appends (W.contents out.old) (W.contents out.new)
+        (ranges_heading format)) }
 {
     match format {
-        ReportFormat::Lines => b"range customer service country first last used voided free\n",
-        ReportFormat::Csv => {
-            b"range,customer,service,country,first,last,used,voided,free,closed,day,date\r\n"
-        }
+        ReportFormat::Lines => write_text(
+            b"range customer service country first last used voided free\n",
+            out,
+        ),
+        ReportFormat::Csv => write_record(HEADINGS, out),
     }
 }
 

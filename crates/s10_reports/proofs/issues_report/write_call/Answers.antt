@@ -1,5 +1,5 @@
-use Rattle.std.proofs.Common.{◌≡◌, ◌∙◌, [], ◌∷◌, List, arith, length, sym, subst, take}
-use Rattle.std.specs.Prelude.{⊤, Err, slice_get, Some}
+use Rattle.std.proofs.Common.{◌∙◌, [], ◌∷◌, List, arith, length, sym, subst, take}
+use Rattle.std.specs.Prelude.{⊤, Err}
 use Rattle.std.specs.Io.KnownBytes.{Appends}
 use Rattle.s10_history.specs.declared.entry.Entry.{Entry}
 use Rattle.s10_history.specs.Issues.{issues_at}

@@ -1,8 +1,6 @@
-use Rattle.std.proofs.Common.{◌≡◌, ◌∙◌, [], ◌∷◌, List, ℕ, Bool, true, false, Option, ap, sym, refl}
-use Rattle.std.specs.Prelude.{not}
+use Rattle.std.proofs.Common.{◌≡◌, ◌∙◌, [], ◌∷◌, List, Bool, true, false, Option, ap, sym}
 use Rattle.s10_history.specs.declared.entry.Entry.{Entry}
 use Rattle.s10_history.specs.declared.issuance.Issuance.{Issuance}
-use Rattle.s10_history.specs.declared.issue.Issue.{Issue}
 use Rattle.s10_history.specs.declared.range.Range.{Range}
 use Rattle.s10_history.specs.Issues.{last_issue_of}
 use Rattle.s10_reports.specs.declared.issues_report.IssuesReport.{IssuesReport}
