@@ -6,6 +6,7 @@ pub mod Runs
 pub mod Stop
 pub mod Turn
 pub mod Batch
+pub mod BatchRoom
 pub mod NearLink
 pub mod Calls
 pub mod Composed

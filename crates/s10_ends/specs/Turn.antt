@@ -1,6 +1,6 @@
 -- What one turn of a server does to its book and to the link.
 use Rattle.std.specs.Prelude.{◌≡◌, ◌↔◌, ◌⊎◌, ℕ, ⊤, List, [], ◌∷◌, Option, Some, None, Result, Ok}
-use Rattle.std.specs.Prelude.{Err, OnOk, OnErr}
+use Rattle.std.specs.Prelude.{Err, OnOk}
 use Rattle.s10_link.specs.declared.trace.Trace.{Trace}
 use Rattle.s10_link.specs.declared.peer.Peer.{Peer}
 use Rattle.s10_wire.specs.declared.frame.Frame.{Frame}

@@ -3,6 +3,7 @@
 
 mod answer;
 mod batch;
+mod batch_room;
 mod calls;
 mod client;
 mod committing;
@@ -19,6 +20,7 @@ mod turn;
 
 pub use answer::Answer;
 pub use batch::serve_batch;
+pub use batch_room::BatchRoom;
 pub use calls::{CallFault, call};
 pub use client::{BadNumbers, Client, SubmitFault};
 pub use delivery::Delivery;

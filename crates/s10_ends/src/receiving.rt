@@ -85,6 +85,7 @@ pub(crate) fn handle_batch<B: Book, L: Link>(
     requires none { taken.old.items ≡ [] }
     requires room { most ≤ vec_capacity taken.old }
     ensures few { length taken.new.items ≤ most }
+    ensures capacity { vec_capacity taken.new ≡ vec_capacity taken.old }
     ensures taken { (begun : Trace) → Receives begun (L.trace_of link.old) first
         → ReceivesBatch (λ before after b answer. Handles B.faults B.honest B.terms B.history
         B.committed B.clean B.may_find before after day b answer) most

@@ -1,4 +1,4 @@
-use Rattle.std.proofs.Common.{◌≡◌, ℕ, ◌<◌, ◌≤◌, [], Some, None, refl, subst, arith}
+use Rattle.std.proofs.Common.{◌≡◌, ℕ, ◌<◌, ◌≤◌, [], Some, None, refl, subst, arith, ◌∙◌}
 use Rattle.s10_ends.specs.Batch.ReceivesAll.{none}
 use Rattle.s10_ends.proofs.Filling.{room_for_next, room_for_first, room_kept, one_longer}
 use Rattle.s10_ends.proofs.Filling.{one_pushed, first_pushed, few_of_none, fewer, no_more_than}
@@ -62,6 +62,7 @@ returns-in_default-clause-taken g c = λ begun received.
 pub loop-more-init : goal.loop-more-init
 loop-more-init g c = record {
   room = room_kept _ _ c.args.most c.requires.room c.push_reserved.ensures.capacity;
+  capacity = c.push_reserved.ensures.capacity;
   many = first_pushed c.args.taken.now.items _ _ c.args.taken.now.ok.0 c.requires.none
       c.push_reserved.ensures.len;
   count = rw (c.push_reserved.ensures.items, c.requires.none) refl;
@@ -94,6 +95,7 @@ pub loop-more-preserved : goal.loop-more-preserved
 loop-more-preserved g c = record {
   room = room_kept _ _ c.args.most c.loop-more.invariant.room
       c.push_reserved-in-loop-more.ensures.capacity;
+  capacity = c.push_reserved-in-loop-more.ensures.capacity ∙ c.loop-more.invariant.capacity;
   many = one_longer _ _ c.loop-more._more c.loop-more.invariant.many
       c.push_reserved-in-loop-more.ensures.len;
   count = one_pushed c.loop-more.taken.items _ c.in-Some-2.next c.loop-more._more
@@ -124,3 +126,18 @@ returns-in_err-from-clause-led g c = none_led
 
 pub returns-in_default-clause-led : goal.returns-in_default-clause-led
 returns-in_default-clause-led g c = none_led
+
+pub returns-clause-capacity : goal.returns-clause-capacity
+returns-clause-capacity g c = c.loop-more.invariant.capacity
+
+pub returns-in_err-next-clause-capacity : goal.returns-in_err-next-clause-capacity
+returns-in_err-next-clause-capacity g c = c.loop-more.invariant.capacity
+
+pub returns-in_default-2-clause-capacity : goal.returns-in_default-2-clause-capacity
+returns-in_default-2-clause-capacity g c = c.loop-more.invariant.capacity
+
+pub returns-in_err-from-clause-capacity : goal.returns-in_err-from-clause-capacity
+returns-in_err-from-clause-capacity g c = refl
+
+pub returns-in_default-clause-capacity : goal.returns-in_default-clause-capacity
+returns-in_default-clause-capacity g c = refl

@@ -10,6 +10,7 @@ use Rattle.s10_ends.proofs.receiving.handle_batch.Given as goal
 abbrev pub invariant-loop-more : goal.invariant-loop-more
 invariant-loop-more g l = record {
   room : l.fn.most ≤ vec_capacity l.taken;
+  capacity : vec_capacity l.taken ≡ vec_capacity l.fn.taken;
   many : vec_len l.taken ≡ l._more;
   count : length l.taken.items ≡ l._more;
   takes : (begun : Trace) → Receives begun (g.L.Link.trace_of l.fn.link) l.fn.first
