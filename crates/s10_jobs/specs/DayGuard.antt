@@ -1,5 +1,5 @@
 -- The days of turns, and which days that were read a server refuses.
-use Rattle.std.specs.Prelude.{◌≡◌, ℕ, ◌+◌, ◌<◌, List, length, Option, Some, None}
+use Rattle.std.specs.Prelude.{ℕ, ◌+◌, ◌<◌, List, length, Option, Some, None}
 use Rattle.s10_history.specs.declared.entry.Entry.{Entry}
 use Rattle.s10_history.specs.History.{day_of}
 use Rattle.s10_jobs.specs.declared.turn_options.TurnOptions.{TurnOptions}

@@ -19,7 +19,7 @@ use crate::ledger_log::LedgerLog;
 use crate::turn_line::write_turn;
 use crate::turn_options::TurnOptions;
 use s10_book::{GroupCommit, LastFailure, MAX_BATCH};
-use s10_ends::{Server, Turn, serve_batch, serve_batch_of_one};
+use s10_ends::{BatchRoom, Server, Turn, serve_batch, serve_batch_of_one};
 use s10_lines::WriteFault;
 use s10_link::Link;
 use std::alloc::Global;
@@ -29,12 +29,13 @@ use std::time::Clock;
 /// Serves the turns of the options in batches of up to 64 datagrams, and prints one line for each turn.
 ///
 /// The calls of a batch are committed together if a reply is to a pending call. Then its replies are
-/// sent, and its lines are written and flushed. If a batch cannot be allocated, the server handles
-/// one datagram without allocating. Standard error has the sender of a dropped datagram at once. For
-/// a minute after that it only counts them, and then has their number and the sender of the last.
-/// It also has the reason why the ledger fails, at each change of the reason. Before the first batch
-/// it has the number of calls and both days, then once a day that the ledger's last day is past the
-/// batch's, and once that 90, 95 and 99 of each 100 calls of the limit are kept.
+/// sent, and its lines are written and flushed. Memory for a batch is allocated before the first one
+/// and kept. If it cannot be allocated, the server handles one datagram without allocating, and then
+/// tries again. Standard error has the sender of a dropped datagram at once. For a minute after that
+/// it only counts them, and then has their number and the sender of the last. It also has the reason
+/// why the ledger fails, at each change of the reason. Before the first batch it has the number of
+/// calls and both days, then once a day that the ledger's last day is past the batch's, and once
+/// that 90, 95 and 99 of each 100 calls of the limit are kept.
 ///
 /// From the first batch to the last, each distinct request that arrived is applied once, in order
 /// of first arrival, and the call of each reply that was sent is committed.
@@ -75,6 +76,7 @@ where
     ensures given { options.day ≢ None → result ≢ Ok JobStatus.Failed }
     ensures led { LeadsTo L.step link.old link.new }
 {
+    let mut room = BatchRoom::new(alloc);
     let mut drops = DropLog::new(rt);
     let mut failures = FailureLog::new(rt);
     let mut ledger = LedgerLog::new(rt);
@@ -89,9 +91,10 @@ where
         };
         ledger.eprint_day(server.book(), today);
         let most = (options.count - done).min(MAX_BATCH);
-        match serve_batch(alloc, server, link, today, most) {
-            Ok(turns) => {
-                print_turns(&mut drops, &turns, options.senders, out)?;
+        match serve_batch(&mut room, server, link, today, most) {
+            Ok(()) => {
+                let turns = room.turns();
+                print_turns(&mut drops, turns, options.senders, out)?;
                 done += turns.len() as u32;
             }
             Err(_) => {

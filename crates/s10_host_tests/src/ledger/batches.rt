@@ -2,7 +2,7 @@
 
 use crate::ledger::calls::{closed, ledger, settings};
 use s10_book::{Batched, BookFault, GroupCommit, TripBook};
-use s10_ends::{Server, ServerTurn, Turn, serve_batch, serve_batch_of_one};
+use s10_ends::{BatchRoom, Server, ServerTurn, Turn, serve_batch, serve_batch_of_one};
 use s10_link::{Packet, Peer, Receipt, ScriptLink};
 use s10_test_help::datagrams::{DRAW, DRAWN, GRANT};
 use s10_test_help::expect::same;
@@ -87,7 +87,7 @@ fn is_turn(turn: &Turn, case: &Case, fails: bool) -> bool {
 
 // Returns whether a batch over both datagrams, or one turn over the first, ends as expected.
 fn ends<B: GroupCommit>(
-    alloc: Global,
+    room: &mut BatchRoom,
     server: &mut Server<B>,
     link: &mut ScriptLink,
     cases: (&Case, &Case),
@@ -98,8 +98,9 @@ fn ends<B: GroupCommit>(
     if !in_batch {
         return is_turn(&serve_batch_of_one(server, link, 20_000), first, fails);
     }
-    match serve_batch(alloc, server, link, 20_000, 2) {
-        Ok(turns) => {
+    match serve_batch(room, server, link, 20_000, 2) {
+        Ok(()) => {
+            let turns = room.turns();
             turns.len() == 2
                 && is_turn(&turns[0], first, fails)
                 && is_turn(&turns[1], second, fails)
@@ -120,8 +121,9 @@ fn ends_over<B: GroupCommit>(
         return (book, [false; 2]);
     };
     let mut server = Server::new(book);
-    let at_first = ends(alloc, &mut server, &mut link, cases, in_batch, true);
-    let then = ends(alloc, &mut server, &mut link, cases, in_batch, false);
+    let mut room = BatchRoom::new(alloc);
+    let at_first = ends(&mut room, &mut server, &mut link, cases, in_batch, true);
+    let then = ends(&mut room, &mut server, &mut link, cases, in_batch, false);
     (server.into_book(), [at_first, then])
 }
 

@@ -3,7 +3,7 @@
 
 use crate::ledger::calls::{closed, settings};
 use s10_book::{Batched, Book};
-use s10_ends::{Server, serve_batch};
+use s10_ends::{BatchRoom, Server, serve_batch};
 use s10_history::Settings;
 use s10_ledger::{ClosedBook, HashSeed, NoObserver, Refused, SqlBook};
 use s10_link::{Link, Packet, Peer, Receipt, ScriptLink};
@@ -54,10 +54,11 @@ fn link_of_requests(alloc: Global) -> Option<ScriptLink> {
 /// connection.
 fn served_in_batches<S: Alter>(alloc: Global, book: SqlBook<S>) -> (Option<Served>, Connection<S>) {
     let mut server = Server::new(Batched::new(book));
+    let mut room = BatchRoom::new(alloc);
     let mut sent = None;
     if let Some(mut link) = link_of_requests(alloc) {
-        let _ = serve_batch(alloc, &mut server, &mut link, 20_000, 2);
-        let _ = serve_batch(alloc, &mut server, &mut link, 20_000, 2);
+        let _ = serve_batch(&mut room, &mut server, &mut link, 20_000, 2);
+        let _ = serve_batch(&mut room, &mut server, &mut link, 20_000, 2);
         sent = u32::try_from(link.log().len()).ok();
     }
     let book = server.into_book().into_inner();

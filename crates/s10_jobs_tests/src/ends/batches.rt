@@ -4,7 +4,7 @@ use crate::ends::fixtures::{Sent, granted_server, has_sent, new_server};
 use crate::ends::turn_ends::{Ends, is_expected_turn};
 use crate::links::{Meets, link_of};
 use s10_book::{Book, BookFault, GroupCommit, TripBook};
-use s10_ends::{Server, Turn, serve_batch};
+use s10_ends::{BatchRoom, Server, Turn, serve_batch};
 use s10_link::{Link, LinkFault, Peer, ScriptLink};
 use s10_test_help::datagrams::{DRAW, DRAWN, GRANT, GRANTED, SECOND_DRAW, SECOND_DRAWN};
 use s10_test_help::expect::holds;
@@ -71,7 +71,7 @@ fn end_as_expected(turns: &[Turn], expected: &[Ends]) -> bool {
 
 /// Returns whether the next batch ends as expected.
 fn serves<B: GroupCommit>(
-    alloc: Global,
+    room: &mut BatchRoom,
     server: &mut Server<B>,
     link: &mut ScriptLink,
     batch: &Batch,
@@ -80,8 +80,8 @@ fn serves<B: GroupCommit>(
     if most < 1 {
         return false;
     }
-    match serve_batch(alloc, server, link, 20_000, most) {
-        Ok(turns) => end_as_expected(&turns, expected) && link.log().len() == sent,
+    match serve_batch(room, server, link, 20_000, most) {
+        Ok(()) => end_as_expected(room.turns(), expected) && link.log().len() == sent,
         Err(_) => false,
     }
 }
@@ -92,8 +92,9 @@ fn follows_script<B: GroupCommit>(alloc: Global, server: &mut Server<B>, script:
     let Ok(mut link) = link_of(alloc, script.receipts, script.sends) else {
         return false;
     };
+    let mut room = BatchRoom::new(alloc);
     for batch in script.batches {
-        if !serves(alloc, server, &mut link, batch) {
+        if !serves(&mut room, server, &mut link, batch) {
             return false;
         }
     }

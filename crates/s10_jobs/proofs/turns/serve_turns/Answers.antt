@@ -1,4 +1,4 @@
-use Rattle.std.proofs.Common.{rules, ◌≡◌, ◌≤◌, ◌<◌, ◌+◌, ℕ, [], ◌∷◌, length, arith, subst, ◌∙◌, Option, Some, None}
+use Rattle.std.proofs.Common.{rules, ◌≡◌, ◌≤◌, ◌<◌, ◌+◌, ℕ, [], ◌∷◌, length, arith, subst, Some, None}
 use Rattle.std.specs.Prelude.{Bool}
 use Rattle.s10_link.specs.Link.LeadsTo.{none}
 use Rattle.s10_link.proofs.Led.{led_on}
@@ -39,13 +39,13 @@ returns-in_err-print_turns-in-Ok-clause-turns g c =
     (batch_unprinted _ _ _ g.D.Days.gives c.args.options.day g.E.Ending.says _ _ _ _ _ _ _ _ _ _ _ _ _
     c.loop-done.done c.args.options.count
     c.loop-done.invariant.served
-    (record { day = c.in-Some.today; turns = c.in-Ok.turns.items }) c.from_residual.result _
+    (record { day = c.in-Some.today; turns = c.serve_batch.new.room.turns.items }) c.from_residual.result _
     c.from_residual.ensures.1
     (subst (λ (b : Bool). g.E.Ending.says c.loop-done.ends b c.is_due.new.self) c.if-is_due.false
     c.is_due.ensures)
     (c.min-most.result, c.in-Ok.ensures.served)
     next.0 next.1
-    (fits_in c.loop-done.done c.args.options.count c.min-most.result (length c.in-Ok.turns.items)
+    (fits_in c.loop-done.done c.args.options.count c.min-most.result (length c.serve_batch.new.room.turns.items)
     (let few = c.min-most.ensures in let test = c.loop-done-test.true in grind arith)
     c.in-Ok.ensures.few))
 
@@ -89,19 +89,19 @@ loop-done-preserved g c =
     c.loop-done.days c.day_of_batch.new.days c.book.ensures c.in-Some.is c.day_of_batch.ensures.next in
     elim c.match-serve_batch.branch [
       | in-Ok+in_ok-print_turns-in-Ok w ↦
-          let many : w.len.result ≡ length w.in-Ok.turns.items = w.len.ensures ∙ w.in-Ok.turns.ok.0 in
-          rw (w.done-is, w.out-is, w.link-is, w.server-is, many) (record {
-            few = fits_in c.loop-done.done c.args.options.count c.min-most.result (length w.in-Ok.turns.items)
+          let turns = c.serve_batch.new.room.turns.items in
+          rw (w.done-is, w.out-is, w.link-is, w.server-is, w.turns-turns.ensures) (record {
+            few = fits_in c.loop-done.done c.args.options.count c.min-most.result (length turns)
                 (let few = c.min-most.ensures in let test = c.loop-done-test.true in grind arith)
                 w.in-Ok.ensures.few;
             served = batch_served _ _ (λ s day. ⊥) g.D.Days.gives c.args.options.day g.E.Ending.says _ _ _ _ _ _ _ _ _ _ _ _ _
                 c.loop-done.done c.args.options.count c.loop-done.invariant.served
-                (record { day = c.in-Some.today; turns = w.in-Ok.turns.items })
+                (record { day = c.in-Some.today; turns = turns })
                 (subst (λ (b : Bool). g.E.Ending.says c.loop-done.ends b c.is_due.new.self) c.if-is_due.false
                 c.is_due.ensures)
                 (c.min-most.result, w.in-Ok.ensures.served)
                 next.0 next.1
-                (rw (← w.deref.ensures.value) w.in_ok-print_turns-in-Ok.ensures);
+                (rw w.turns-turns.ensures at w.in_ok-print_turns-in-Ok.ensures);
             led = led_on c.loop-done.invariant.led w.in-Ok.ensures.led;
           })
       | in-Err+in_ok-print_turns-in-Err w ↦
