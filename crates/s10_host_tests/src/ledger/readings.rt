@@ -3,7 +3,7 @@
 use s10_book::{BookFault, PlainBook};
 use s10_core::{Country, Serial, Service, pair_number};
 use s10_history::{Range, Settings, Usage};
-use s10_replay::{replay_rows, usage_among};
+use s10_replay::{replay_row, usage_among};
 use s10_rows::{CallRow, OpenFault, SerialRow};
 use s10_test_help::datagrams::{DRAW, DRAWN, GRANTED};
 use s10_test_help::expect::same;
@@ -31,7 +31,12 @@ fn replayed(alloc: Global, day: i64, reply: &[u8]) -> Option<Result<(), OpenFaul
     };
     let rows = [first, CallRow::new(2, 7, 1, day, reply)];
     let mut book = PlainBook::new(alloc, Settings::new(30, 100).unwrap());
-    Some(replay_rows(&mut book, &rows))
+    for row in &rows {
+        if let Err(fault) = replay_row(&mut book, row) {
+            return Some(Err(fault));
+        }
+    }
+    Some(Ok(()))
 }
 
 const LONG: &[u8] =
