@@ -1,3 +1,6 @@
+pub mod BlockLists
+pub mod LastPlaces
+pub mod Chained
 pub mod Sheets
 pub mod LastDay
 pub mod Placing

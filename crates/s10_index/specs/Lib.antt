@@ -1,3 +1,6 @@
+pub mod Blocks
+pub mod LastPlace
+pub mod HashChains
 pub mod CompactOutcomes
 pub mod CallLog
 pub mod Keys

@@ -2,12 +2,14 @@
 //! the calls; the book in memory over it; and what a call writes to the tables.
 #![tactic(auto)]
 
+mod blocks;
 mod call_index;
 mod call_key;
 mod call_log;
 mod call_writes;
 mod compact_call;
 mod compact_outcome;
+mod hash_chains;
 mod id_key;
 mod indexed_book;
 mod issue_writes;
