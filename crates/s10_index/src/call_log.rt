@@ -1,25 +1,25 @@
 //! The calls in the process, in compact form.
 
 ghost use Rattle.std.specs.Prelude.{◌≡◌, ◌∷◌, ◌++◌, ◌-◌, [], ◌<◌, OnOk, Some, length, slice_get};
-ghost use Rattle.std.specs.Prelude.{vec_len, vec_capacity};
 
+use crate::blocks::Blocks;
 use crate::compact_call::CompactCall;
 use s10_history::Entry;
 use s10_wire::Ids;
 use std::alloc::{AllocError, Global};
 use std::marker::Model;
 
-/// Kept calls in order of arrival, in compact form.
+/// Kept calls in order of arrival, in compact form. It grows by blocks.
 #[derive(Drop)]
 pub struct CallLog {
     /// The calls, in order of arrival. A sheet is named by its index in `sheets`.
-    rows: Vec<CompactCall>,
+    rows: Blocks<CompactCall>,
     /// The identifiers of each sheet, in order of arrival.
-    sheets: Vec<Ids>,
+    sheets: Blocks<Ids>,
 }
 
 impl Model for CallLog {
-    ghost use Rattle.std.specs.Prelude.{◌-◌, ◌≤◌, All, length, map, min, vec_len, vec_capacity};
+    ghost use Rattle.std.specs.Prelude.{◌≤◌, All, length, map, min};
     ghost use Rattle.s10_index.specs.CallLog.{CallList};
     ghost use Rattle.s10_index.specs.CompactOutcomes.{entry_of, NamesSheetOf};
 
@@ -27,8 +27,7 @@ impl Model for CallLog {
 
     ghost view = { λ calls. record {
       items = map (entry_of calls.sheets.items) calls.rows.items;
-      room = min (vec_capacity calls.rows - vec_len calls.rows) (vec_capacity calls.sheets - vec_len
-          calls.sheets);
+      room = min calls.rows.room calls.sheets.room;
     } };
 
     ghost invariant = { λ calls. All (λ row. NamesSheetOf (length calls.sheets.items) row.outcome)
@@ -42,8 +41,8 @@ impl CallLog {
         ensures { result.items ≡ [] }
     {
         CallLog {
-            rows: Vec::new(alloc),
-            sheets: Vec::new(alloc),
+            rows: Blocks::new(alloc),
+            sheets: Blocks::new(alloc),
         }
     }
 
@@ -76,7 +75,7 @@ impl CallLog {
         requires { place < length self.now.items }
         ensures { slice_get self.now.items place ≡ Some result }
     {
-        self.rows[place].expand(&self.sheets)
+        self.rows.at(place).expand(&self.sheets)
     }
 
     /// Reserves memory for a call of any kind. The calls stay the same.
@@ -99,14 +98,6 @@ impl CallLog {
         ensures { self.new.items ≡ self.old.items ++ entry ∷ [] }
     {
         let row = CompactCall::of(entry, &mut self.sheets);
-        push_item(&mut self.rows, row);
+        self.rows.push_reserved(row);
     }
-}
-
-// Appends an item, in reserved memory.
-fn push_item<T: Copy>(list: &mut Vec<T>, item: T)
-    requires { vec_len list.old < vec_capacity list.old }
-    ensures { list.new.items ≡ list.old.items ++ item ∷ [] }
-{
-    list.push_reserved(item);
 }

@@ -1,8 +1,9 @@
 //! Kept calls in compact form.
 
-ghost use Rattle.std.specs.Prelude.{◌≡◌, ◌++◌, ◌<◌, length, vec_len, vec_capacity};
+ghost use Rattle.std.specs.Prelude.{◌≡◌, ◌++◌, ◌<◌, length};
 ghost use Rattle.s10_index.specs.CompactOutcomes.{entry_of, sheet_of, NamesSheetOf};
 
+use crate::blocks::Blocks;
 use crate::compact_outcome::CompactOutcome;
 use s10_history::Entry;
 use s10_wire::{Ids, Request};
@@ -21,8 +22,8 @@ pub(crate) struct CompactCall {
 impl CompactCall {
     /// Returns the call in compact form. Appends its sheet, if it has one, to `sheets` in reserved
     /// memory.
-    pub(crate) fn of(entry: Entry, sheets: &mut Vec<Ids>) -> CompactCall
-        requires room { vec_len sheets.old < vec_capacity sheets.old }
+    pub(crate) fn of(entry: Entry, sheets: &mut Blocks<Ids>) -> CompactCall
+        requires room { 0 < sheets.old.room }
         requires few { length sheets.old.items < 4294967295 }
         ensures sheets { sheets.new.items ≡ sheets.old.items ++ sheet_of entry.outcome }
         ensures restored { entry_of sheets.new.items result ≡ entry }
@@ -36,9 +37,9 @@ impl CompactCall {
     }
 
     /// Returns the call. Its sheet, if it has one, is in `sheets`.
-    pub(crate) fn expand(self, sheets: &[Ids]) -> Entry
-        requires { NamesSheetOf (length sheets.now) self.outcome }
-        ensures { result ≡ entry_of sheets.now self }
+    pub(crate) fn expand(self, sheets: &Blocks<Ids>) -> Entry
+        requires { NamesSheetOf (length sheets.now.items) self.outcome }
+        ensures { result ≡ entry_of sheets.now.items self }
     {
         Entry {
             request: self.request,

@@ -1,8 +1,9 @@
 //! Outcomes in compact form.
 
-ghost use Rattle.std.specs.Prelude.{◌≡◌, ◌++◌, ◌<◌, length, vec_len, vec_capacity};
+ghost use Rattle.std.specs.Prelude.{◌≡◌, ◌++◌, ◌<◌, length};
 ghost use Rattle.s10_index.specs.CompactOutcomes.{outcome_of, sheet_of, NamesSheetOf};
 
+use crate::blocks::Blocks;
 use s10_core::Id;
 use s10_wire::{Ids, Outcome, Status};
 
@@ -33,8 +34,8 @@ pub(crate) enum CompactOutcome {
 impl CompactOutcome {
     /// Returns the outcome in compact form. Appends its sheet, if it has one, to `sheets` in
     /// reserved memory.
-    pub(crate) fn of(outcome: Outcome, sheets: &mut Vec<Ids>) -> CompactOutcome
-        requires room { vec_len sheets.old < vec_capacity sheets.old }
+    pub(crate) fn of(outcome: Outcome, sheets: &mut Blocks<Ids>) -> CompactOutcome
+        requires room { 0 < sheets.old.room }
         requires few { length sheets.old.items < 4294967295 }
         ensures sheets { sheets.new.items ≡ sheets.old.items ++ sheet_of outcome }
         ensures restored { outcome_of sheets.new.items result ≡ outcome }
@@ -66,16 +67,16 @@ impl CompactOutcome {
     }
 
     /// Returns the outcome. Its sheet, if it has one, is in `sheets`.
-    pub(crate) fn expand(self, sheets: &[Ids]) -> Outcome
-        requires { NamesSheetOf (length sheets.now) self }
-        ensures { result ≡ outcome_of sheets.now self }
+    pub(crate) fn expand(self, sheets: &Blocks<Ids>) -> Outcome
+        requires { NamesSheetOf (length sheets.now.items) self }
+        ensures { result ≡ outcome_of sheets.now.items self }
     {
         match self {
             CompactOutcome::Granted { range } => Outcome::Granted { range },
             CompactOutcome::Drawn { day, id } => Outcome::Drawn { day, id },
             CompactOutcome::DrawnMany { day, sheet } => Outcome::DrawnMany {
                 day,
-                ids: sheets[sheet as usize],
+                ids: sheets.at(sheet as usize),
             },
             CompactOutcome::Voided => Outcome::Voided,
             CompactOutcome::Told(status) => Outcome::Told(status),

@@ -11,12 +11,12 @@ invariant_of-self c =
     (sheet_of c.args.entry.outcome) =
     ap length c.of-row.ensures.sheets ∙ length-append was.sheets.items
     (sheet_of c.args.entry.outcome) in
-    let rows : length c.push_item.new.list.items ≡ length was.rows.items + 1 =
-    ap length c.push_item.ensures ∙ length-append was.rows.items (c.of-row.result ∷ []) in
+    let rows : length c.push_reserved.new.self.items ≡ length was.rows.items + 1 =
+    ap length c.push_reserved.ensures.items ∙ length-append was.rows.items (c.of-row.result ∷ []) in
     let one = one_sheet c.args.entry.outcome in (
       named-push (length was.sheets.items) _ was.rows.items _ c.of-row.result
           (omega (arith, sheets))
-          c.push_item.ensures c.self.invariant.0 c.of-row.ensures.named,
+          c.push_reserved.ensures.items c.self.invariant.0 c.of-row.ensures.named,
       omega (arith, sheets, rows, one, c.self.invariant.1),
     )
 
@@ -25,6 +25,6 @@ returns c =
     let e = c.args.entry in
     let was = c.self.inside in
     calls-push was.sheets.items (sheet_of e.outcome) c.of-row.new.sheets.items was.rows.items
-    c.push_item.new.list.items c.of-row.result e
-    c.of-row.ensures.sheets c.push_item.ensures c.self.invariant.0 c.of-row.ensures.restored
+    c.push_reserved.new.self.items c.of-row.result e
+    c.of-row.ensures.sheets c.push_reserved.ensures.items c.self.invariant.0 c.of-row.ensures.restored
     ∙ ap (λ (calls : CallList). calls.items ++ e ∷ []) c.self.view_is
