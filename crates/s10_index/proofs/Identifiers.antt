@@ -1,5 +1,5 @@
 -- The identifiers that were issued: that they are valid, and how many there are.
-use Rattle.std.proofs.Common.{◌≡◌, ◌∙◌, ℕ, ◌+◌, Bool, true, false, cond, List, [], ◌∷◌, ◌++◌, Option}
+use Rattle.std.proofs.Common.{◌≡◌, ◌∙◌, ℕ, ◌+◌, Bool, true, false, cond, List, [], ◌∷◌, ◌++◌}
 use Rattle.std.proofs.Common.{Some, None, length, refl, sym, ap, subst, arith, inl, inr}
 use Rattle.std.specs.Prelude.{slice_get, is_some, ◌||◌}
 use Rattle.std.specs.Option.{option_map}
@@ -7,29 +7,33 @@ use Rattle.std.specs.List.{last_or}
 use Rattle.std.proofs.lemmas.Bool.{cases_Bool}
 use Rattle.std.proofs.lemmas.Bool.Decides.{same_from_decides}
 use Rattle.std.proofs.lemmas.List.Elements.{All-push}
+use Rattle.std.proofs.lemmas.Option.{slice_get-map}
 use Rattle.std.proofs.lemmas.List.Folds.{list_any-append}
 use Rattle.s10_core.specs.declared.id.Id.{Id}
 use Rattle.s10_core.specs.Id.{IsId}
 use Rattle.s10_history.specs.declared.entry.Entry.{Entry}
-use Rattle.s10_history.specs.declared.issue.Issue.{Issue}
 use Rattle.s10_history.specs.declared.issuance.Issuance.{Issuance}
-use Rattle.s10_history.specs.Issues.{issues_at, is_of, is_issued, last_issues, last_issuance_of}
+use Rattle.s10_history.specs.Issues.{issues_at, carried_by, is_of, is_issued, last_issues, last_issuance_of}
 use Rattle.s10_history.proofs.Issued.{none_filter}
 use Rattle.s10_book.proofs.Carried.{made_by}
 use Rattle.s10_book.proofs.Carrying.{issues_upto, upto_next, carried_at}
 use Rattle.s10_book.proofs.Free.{id_equal, issued_latest}
 use Rattle.s10_book.proofs.Spaced.{id_same}
-use Rattle.s10_index.specs.LastIssues.{HaveIds}
+use Rattle.s10_index.specs.IssueLog.{HaveIds}
 
 -- One more issuance of a call is at the end, with the identifier of this one.
 pub one_more : (h : List Entry) (e : Entry) (place : ℕ) (i : Issuance)
     → slice_get (issues_at 0 e) place ≡ Some i → (y : Issuance) × (y.id ≡ i.id)
     × (issues_upto h e (place + 1) ≡ issues_upto h e place ++ y ∷ [])
+    × (y.arrival ≡ 1 + length h) × (slice_get (issues_at (1 + length h) e) place ≡ Some y)
 one_more h e place i at =
-    let found = carried_at e 0 place i at in (
-      made_by e (1 + length h) found.0,
+    let found = carried_at e 0 place i at in
+    let made : ℕ × Id → Issuance = made_by e (1 + length h) in (
+      made found.0,
       ap (λ (j : Issuance). j.id) found.2,
       upto_next h e place found.0 found.1,
+      refl,
+      slice_get-map made (carried_by e.outcome) place ∙ ap (option_map made) found.1,
     )
 
 -- One more valid identifier.
@@ -49,10 +53,6 @@ some_last is x =
       | inr no' ↦ ap (λ (l : List Issuance). is_some (last_or None l)) (none_filter (is_of x) is no')
           ∙ sym no'
     ]
-
-some_map : {A B : Type 0} (f : A → B) (o : Option A) → is_some (option_map f o) ≡ is_some o
-some_map f None = refl
-some_map f (Some x) = refl
 
 step_count : (here again next : Bool) (i : Issuance) (lasts rest : List Issuance)
     → (here ≡ true → next ≡ again)
@@ -82,21 +82,3 @@ lasts_count (i ∷ is) y =
     ∙ step_count (is_of y.id i) (is_issued is i.id) (is_issued is y.id) i (last_issues is)
     (last_issues (is ++ y ∷ []))
     (λ here. ap (is_issued is) (sym (id_equal i.id y.id here))) (lasts_count is y)
-
--- The count of keys after one more issuance.
-pub count_more : (h : List Entry) (e : Entry) (place old new : ℕ) (i : Issuance) (f : Issuance → Issue)
-    (o : Option Issue)
-    → slice_get (issues_at 0 e) place ≡ Some i
-    → o ≡ option_map f (last_issuance_of (issues_upto h e place) i.id)
-    → new ≡ old + cond (is_some o) 0 1
-    → old ≡ length (last_issues (issues_upto h e place))
-    → new ≡ length (last_issues (issues_upto h e (place + 1)))
-count_more h e place old new i f o at held grown was =
-    let next = one_more h e place i at in
-    let is : List Issuance = issues_upto h e place in
-    let known : is_some o ≡ is_issued is next.0.id =
-    ap is_some held ∙ some_map f (last_issuance_of is i.id) ∙ some_last is i.id
-    ∙ ap (is_issued is) (sym next.1) in
-    grown ∙ ap (λ (n : ℕ). n + cond (is_some o) 0 1) was
-    ∙ ap (λ (b : Bool). length (last_issues is) + cond b 0 1) known
-    ∙ sym (ap (λ (l : List Issuance). length (last_issues l)) next.2 ∙ lasts_count is next.0)

@@ -1,7 +1,7 @@
 -- The last element that passes.
-use Rattle.std.proofs.Common.{◌≡◌, ◌∙◌, ℕ, zero, suc, ◌+◌, ◌<◌, ◌≤◌, Bool, true, false, cond, List, []}
+use Rattle.std.proofs.Common.{None, ◌≡◌, ◌∙◌, ℕ, zero, suc, ◌+◌, ◌<◌, ◌≤◌, Bool, true, false, cond, List, []}
 use Rattle.std.proofs.Common.{◌∷◌, ◌++◌, Option, Some, length, get_or, refl, sym, ap, subst, arith}
-use Rattle.std.specs.Prelude.{slice_get}
+use Rattle.std.specs.Prelude.{slice_get, IfSome}
 use Rattle.std.specs.Option.{option_map, unwrap_or}
 use Rattle.std.proofs.lemmas.Bool.{both_ways}
 use Rattle.std.proofs.lemmas.Option.{none-some, same_Some, slice_get-get_or}
@@ -108,3 +108,10 @@ narrowed p q xs ys (suc n) within =
         absurd (both_ways (passes_at p xs n) fails (within n (omega arith) here))
     by false fails false here rest =
         ap (λ (b : Bool). cond b (Some n) (last_place q ys n)) here ∙ rest
+
+pub last_within : {A : Type 0} (p : A → Bool) (xs : List A) (n bound : ℕ) (o : Option ℕ) → n ≤ bound
+    → o ≡ last_place p xs n → IfSome o (λ m. m < bound)
+last_within p xs n bound None few is = tt
+last_within p xs n bound (Some m) few is =
+    let found = last_passes_at p xs n m (sym is) in
+    omega (arith, few, found.0)

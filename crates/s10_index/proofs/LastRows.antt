@@ -29,7 +29,7 @@ use Rattle.s10_rows.specs.declared.serial_row.SerialRow.{SerialRow}
 use Rattle.s10_rows.specs.Tables.{range_row, serial_row}
 use Rattle.s10_history.proofs.Issued.{none_filter, last_or-more}
 use Rattle.s10_replay.proofs.SerialRows.{last_passes}
-use Rattle.s10_index.specs.LastIssues.{issue_in_history}
+use Rattle.s10_index.proofs.Recording.{issue_in_history}
 use Rattle.s10_index.specs.RowsFrom.{range_rows_from, last_rows, serial_rows_from}
 use Rattle.s10_replay.proofs.RowsAfterCall.{row_in}
 

@@ -1,12 +1,12 @@
 pub mod BlockLists
 pub mod LastPlaces
 pub mod Chained
+pub mod Walks
+pub mod Keyed
+pub mod IssueLogs
 pub mod Sheets
 pub mod LastDay
-pub mod Placing
 pub mod Recording
-pub mod Inserting
-pub mod Reserving
 pub mod LastRows
 pub mod IssueLemmas
 pub mod Voiding

@@ -19,8 +19,8 @@ use Rattle.s10_replay.proofs.RowsAfterCall.{row_in}
 use Rattle.s10_replay.proofs.SerialRows.{last_passes}
 use Rattle.s10_rows.specs.declared.serial_row.SerialRow.{SerialRow}
 use Rattle.s10_rows.specs.Tables.{serial_rows, serial_row}
-use Rattle.s10_index.specs.Keys.{NamesId}
-use Rattle.s10_index.specs.LastIssues.{HaveIds}
+use Rattle.s10_index.specs.RowId.{NamesId}
+use Rattle.s10_index.specs.IssueLog.{HaveIds}
 use Rattle.s10_index.specs.RowsFrom.{serial_row_of}
 
 at_index : {A : Type 0} (xs : List A) (x : A) → Contains xs x → (k : ℕ) × (slice_get xs k ≡ Some x)

@@ -3,8 +3,9 @@ pub mod LastPlace
 pub mod HashChains
 pub mod CompactOutcomes
 pub mod CallLog
-pub mod Keys
+pub mod RowId
+pub mod KeyHash
 pub mod Positions
-pub mod LastIssues
+pub mod IssueLog
 pub mod CallIndex
 pub mod RowsFrom

@@ -1,13 +1,17 @@
--- Defines the map of the index of each call, by its key.
-use Rattle.std.specs.Prelude.{◌≡◌, ℕ, List}
-use Rattle.std.specs.List.{position_from}
-use Rattle.std.specs.HashMap.{HashMap, get}
+-- Defines the chains that find a call by its key.
+use Rattle.std.specs.Prelude.{◌≡◌, List, Some, All, map}
 use Rattle.s10_history.specs.declared.entry.Entry.{Entry}
-use Rattle.s10_history.specs.History.{has_key}
-use Rattle.s10_index.specs.declared.call_key.CallKey.{CallKey}
-use Rattle.s10_index.specs.Keys.{same_call_key}
+use Rattle.s10_history.specs.History.{find_entry}
+use Rattle.s10_ranges.specs.declared.hash_seed.HashSeed.{HashSeed}
+use Rattle.s10_index.specs.declared.hash_chains.HashChains.{HashChains}
+use Rattle.s10_index.specs.KeyHash.{call_hash}
 
--- At each key the map has the index of the call with that key, from 0, if there is one.
-abbrev pub HasPositions : {S : Type 0} → HashMap CallKey ℕ S → List Entry → Type 0
-HasPositions positions h = (key : CallKey) → get same_call_key positions key
-    ≡ position_from (has_key key.customer key.number) 0 h
+-- A call is the one with its key.
+abbrev pub HasOwnKey : List Entry → Entry → Type 0
+HasOwnKey h e = find_entry h e.request.customer e.request.number ≡ Some e
+
+-- The chains have the calls of a history if they have the hash of the key of each call, in order,
+-- and each call is the one with its key.
+pub record HasPositions (seed : HashSeed) (positions : HashChains) (h : List Entry) : Type 0 where
+  pub hashes : positions.hashes ≡ map (λ e. call_hash seed e.request.customer e.request.number) h
+  pub keys : All (HasOwnKey h) h

@@ -12,23 +12,21 @@ ghost use Rattle.s10_book.specs.Rules.{IsLegal, MayFollow, has_free_pick, is_fre
 ghost use Rattle.s10_ranges.specs.Moves.{AreMoves};
 ghost use Rattle.s10_ranges.specs.Rests.{rest_of};
 
-use crate::call_key::CallKey;
 use crate::call_log::CallLog;
-use crate::id_key::IdKey;
-use crate::last_issues::{record_call, recorded_issue};
-use crate::positions::{find_in, position_of, record_position};
+use crate::hash_chains::HashChains;
+use crate::issue_log::IssueLog;
+use crate::positions::{find_in, record_position};
 use s10_core::{Id, Serial};
 use s10_history::{Candidate, Entry, HolderKey, Issuance, Issue, Range, is_free};
 use s10_ranges::{HashSeed, Lap, MarkMove, Ranges, Rest, Rests};
 use s10_wire::Body;
 use std::alloc::{AllocError, Global};
-use std::collections::HashMap;
 
-/// Calls held in the process, with their ranges, marks and rests. Maps find a call by its key, and
-/// the last issue of an identifier.
+/// Calls held in the process, with their ranges, marks and rests. Chains of hashes find a call by its
+/// key, and the last issuance of an identifier: they hold indices, and copy neither.
 ///
 /// Any call can be added. What the reads return is that of a history only if the calls are one
-/// (`Indexes`). The maps are hash maps, and `Ranges` searches by halving: no read walks the calls.
+/// (`Indexes`). `Ranges` searches by halving: no read walks the calls.
 #[derive(Drop)]
 pub struct CallIndex {
     /// The calls, in order of arrival.
@@ -37,10 +35,12 @@ pub struct CallIndex {
     pub(crate) ranges: Ranges,
     /// What is known of the ranges that give nothing for a while.
     rests: Rests,
-    /// The index of each call in `entries`, from 0.
-    positions: HashMap<CallKey, u32, HashSeed>,
-    /// The last issue of each identifier.
-    pub(crate) issues: HashMap<IdKey, Issue, HashSeed>,
+    /// The seed of the hashes.
+    seed: HashSeed,
+    /// The hash of the key of each call in `entries`.
+    positions: HashChains,
+    /// The issuances of the calls.
+    pub(crate) issues: IssueLog,
     /// How the call that was prepared last moves the marks. Kept from call to call for its memory.
     moves: Vec<MarkMove>,
     ghost fitting: { All (λ e. IsTrue (fits e.request.body e.outcome)) entries.items },
@@ -58,8 +58,9 @@ impl CallIndex {
             entries: CallLog::new(alloc),
             ranges: Ranges::new(alloc, seed),
             rests: Rests::new(alloc),
-            positions: HashMap::with_hasher(alloc, seed),
-            issues: HashMap::with_hasher(alloc, seed),
+            seed,
+            positions: HashChains::new(alloc),
+            issues: IssueLog::new(alloc),
             moves: Vec::new(alloc),
         }
     }
@@ -101,8 +102,7 @@ impl CallIndex {
             → result ≡ find_entry h customer number }
         ensures fits { IfSome result (λ e. IsTrue (fits e.request.body e.outcome)) }
     {
-        let key = CallKey { customer, number };
-        find_in(&self.entries, &self.positions, &key)
+        find_in(&self.entries, &self.positions, &self.seed, customer, number)
     }
 
     /// Returns the call with the arrival `at`, counted from 1, or `None`.
@@ -119,7 +119,13 @@ impl CallIndex {
     pub fn last_issue(&self, id: &Id) -> Option<Issue>
         ensures { (h : List Entry) → Indexes self.now h → result ≡ last_issue_of h id.now }
     {
-        recorded_issue(&self.issues, id)
+        let last = self.issues.last(&self.entries, &self.seed, id)?;
+        Some(Issue {
+            day: last.issuance.day,
+            voided: last.voided,
+            customer: last.issuance.customer,
+            number: last.issuance.number,
+        })
     }
 
     /// Returns the last issuance of the identifier, or `None` if it was never issued.
@@ -127,20 +133,8 @@ impl CallIndex {
         ensures { (h : List Entry) (t : Terms) → IsLegal h t → length h < 4294967295
             → Indexes self.now h → result ≡ last_issuance_of (issues_of h) id.now }
     {
-        let issue = self.last_issue(id)?;
-        let key = CallKey {
-            customer: issue.customer,
-            number: issue.number,
-        };
-        let place = position_of(&self.positions, &key)?;
-        let arrival = place.checked_add(1)?;
-        Some(Issuance {
-            id: *id,
-            day: issue.day,
-            customer: issue.customer,
-            number: issue.number,
-            arrival,
-        })
+        let last = self.issues.last(&self.entries, &self.seed, id)?;
+        Some(last.issuance)
     }
 
     // Returns the serial that the range, one of its own, gives next.
@@ -300,12 +294,13 @@ impl CallIndex {
             → AreMoves h entry self.old.moves.items → Indexes self.old h
             → Indexes self.new (h ++ entry ∷ []) }
     {
-        let place = self.calls().len() as u32;
+        let call = self.entries.len() as u32;
         self.ranges.follow(&entry, &self.moves);
         self.rests.follow(&entry);
-        record_position(&mut self.positions, &entry, place);
-        record_call(&mut self.issues, &entry);
+        record_position(&mut self.positions, &self.seed, &entry);
         self.entries.push_reserved(entry);
+        self.issues
+            .record_call(&self.entries, &self.seed, call, &entry);
         self.set_rests(&entry);
     }
 }

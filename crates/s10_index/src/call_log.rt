@@ -1,10 +1,13 @@
 //! The calls in the process, in compact form.
 
 ghost use Rattle.std.specs.Prelude.{◌≡◌, ◌∷◌, ◌++◌, ◌-◌, [], ◌<◌, OnOk, Some, length, slice_get};
+ghost use Rattle.s10_history.specs.History.{has_key};
+ghost use Rattle.s10_index.specs.CallLog.{issuance_at};
+ghost use Rattle.s10_index.specs.LastPlace.{passes_at};
 
 use crate::blocks::Blocks;
 use crate::compact_call::CompactCall;
-use s10_history::Entry;
+use s10_history::{Entry, Issuance};
 use s10_wire::Ids;
 use std::alloc::{AllocError, Global};
 use std::marker::Model;
@@ -32,7 +35,8 @@ impl Model for CallLog {
 
     ghost invariant = { λ calls. All (λ row. NamesSheetOf (length calls.sheets.items) row.outcome)
         calls.rows.items
-        × (length calls.sheets.items ≤ length calls.rows.items) };
+        × (length calls.sheets.items ≤ length calls.rows.items)
+        × (length calls.rows.items ≤ 4294967295) };
 }
 
 impl CallLog {
@@ -76,6 +80,29 @@ impl CallLog {
         ensures { slice_get self.now.items place ≡ Some result }
     {
         self.rows.at(place).expand(&self.sheets)
+    }
+
+    /// Returns whether the call at an index, counted from 0, has this key. False if there is none.
+    pub(crate) fn has_key_at(&self, place: usize, customer: u32, number: u32) -> bool
+        ensures { result ≡ passes_at (has_key customer number) self.now.items place }
+    {
+        if place >= self.rows.len() {
+            return false;
+        }
+        let request = self.rows.at(place).request;
+        request.customer == customer && request.number == number
+    }
+
+    /// Returns the issuance at an index of the call at an index, both counted from 0, or `None` if
+    /// there is none.
+    pub(crate) fn issuance_at(&self, call: u32, at: u8) -> Option<Issuance>
+        ensures { result ≡ issuance_at self.now.items call at }
+    {
+        let place = call as usize;
+        if place >= self.rows.len() {
+            return None;
+        }
+        self.rows.at(place).issue(&self.sheets, call + 1, at)
     }
 
     /// Reserves memory for a call of any kind. The calls stay the same.

@@ -1,11 +1,13 @@
 //! Kept calls in compact form.
 
 ghost use Rattle.std.specs.Prelude.{◌≡◌, ◌++◌, ◌<◌, length};
+ghost use Rattle.std.specs.Prelude.{slice_get};
+ghost use Rattle.s10_history.specs.Issues.{issues_at};
 ghost use Rattle.s10_index.specs.CompactOutcomes.{entry_of, sheet_of, NamesSheetOf};
 
 use crate::blocks::Blocks;
 use crate::compact_outcome::CompactOutcome;
-use s10_history::Entry;
+use s10_history::{Entry, Issuance};
 use s10_wire::{Ids, Request};
 
 /// A kept call, with a compact outcome.
@@ -45,6 +47,24 @@ impl CompactCall {
             request: self.request,
             day: self.day,
             outcome: self.outcome.expand(sheets),
+        }
+    }
+
+    /// Returns the issuance at an index from 0, or `None` if it has fewer. The arrival is that of
+    /// the call. Its sheet, if it has one, is in `sheets`.
+    pub(crate) fn issue(self, sheets: &Blocks<Ids>, arrival: u32, at: u8) -> Option<Issuance>
+        requires { NamesSheetOf (length sheets.now.items) self.outcome }
+        ensures { result ≡ slice_get (issues_at arrival (entry_of sheets.now.items self)) at }
+    {
+        match self.outcome.issued_at(sheets, at) {
+            None => None,
+            Some((day, id)) => Some(Issuance {
+                id,
+                day,
+                customer: self.request.customer,
+                number: self.request.number,
+                arrival,
+            }),
         }
     }
 }

@@ -1,6 +1,8 @@
 //! Outcomes in compact form.
 
 ghost use Rattle.std.specs.Prelude.{◌≡◌, ◌++◌, ◌<◌, length};
+ghost use Rattle.std.specs.Prelude.{slice_get};
+ghost use Rattle.s10_history.specs.Issues.{carried_by};
 ghost use Rattle.s10_index.specs.CompactOutcomes.{outcome_of, sheet_of, NamesSheetOf};
 
 use crate::blocks::Blocks;
@@ -92,6 +94,24 @@ impl CompactOutcome {
             CompactOutcome::NoSuchRange => Outcome::NoSuchRange,
             CompactOutcome::Closed => Outcome::Closed,
             CompactOutcome::NumberReused => Outcome::NumberReused,
+        }
+    }
+
+    /// Returns the day and the identifier of the issuance at an index from 0, or `None` if it has
+    /// fewer. Its sheet, if it has one, is in `sheets`.
+    pub(crate) fn issued_at(self, sheets: &Blocks<Ids>, at: u8) -> Option<(u32, Id)>
+        requires { NamesSheetOf (length sheets.now.items) self }
+        ensures { result ≡ slice_get (carried_by (outcome_of sheets.now.items self)) at }
+    {
+        match self {
+            CompactOutcome::Drawn { day, id } if at == 0 => Some((day, id)),
+            CompactOutcome::DrawnMany { day, sheet } => {
+                match sheets.at(sheet as usize).get(at as usize) {
+                    None => None,
+                    Some(id) => Some((day, id)),
+                }
+            }
+            _ => None,
         }
     }
 }

@@ -4,16 +4,17 @@
 
 mod blocks;
 mod call_index;
-mod call_key;
 mod call_log;
 mod call_writes;
 mod compact_call;
 mod compact_outcome;
 mod hash_chains;
-mod id_key;
 mod indexed_book;
+mod issue_log;
+mod issue_place;
 mod issue_writes;
-mod last_issues;
+mod key_hash;
+mod last_issuance;
 mod positions;
 mod row_id;
 mod row_writes;

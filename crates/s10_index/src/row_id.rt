@@ -5,7 +5,7 @@ ghost use Rattle.s10_core.specs.declared.id.Id.{Id};
 ghost use Rattle.s10_core.specs.Id.{IsId};
 ghost use Rattle.s10_core.specs.Letters.{AreCapitals};
 ghost use Rattle.s10_core.specs.Pair.{pair_of};
-ghost use Rattle.s10_index.specs.Keys.{NamesId};
+ghost use Rattle.s10_index.specs.RowId.{NamesId};
 
 use s10_core::{Country, Id, Serial, Service};
 use s10_rows::SerialRow;

@@ -9,30 +9,27 @@ ghost use Rattle.s10_history.specs.Issues.{issues_of};
 ghost use Rattle.s10_book.specs.Rules.{IsLegal};
 ghost use Rattle.s10_rows.specs.Tables.{closing, closed_rows, closed_rows_from, range_rows};
 ghost use Rattle.s10_rows.specs.Tables.{serial_rows};
-ghost use Rattle.s10_index.specs.LastIssues.{HasIssues};
+ghost use Rattle.s10_index.specs.CallIndex.{Indexes};
 ghost use Rattle.s10_index.specs.RowsFrom.{last_rows, serial_rows_from, serial_row_of};
 
-use crate::id_key::IdKey;
+use crate::call_index::CallIndex;
 use crate::indexed_book::IndexedBook;
-use crate::last_issues::recorded_issue;
 use crate::row_id::id_in;
 use s10_book::Book;
 use s10_core::Id;
-use s10_history::{Entry, Issuance, Issue};
-use s10_ranges::HashSeed;
+use s10_history::{Entry, Issuance};
 use s10_rows::{ClosedRow, RangeRow, SerialRow};
 use std::alloc::{AllocError, Global};
-use std::collections::HashMap;
 
 // Returns the row of an issuance of the history if it is the last one of its identifier. It is if
 // the recorded issue has its day, since no identifier is issued twice on one day.
-fn last_row(issues: &HashMap<IdKey, Issue, HashSeed>, issuance: &Issuance) -> Option<SerialRow>
+fn last_row(index: &CallIndex, issuance: &Issuance) -> Option<SerialRow>
     ensures { (h : List Entry) (t : Terms) (before behind : List Issuance) → IsLegal h t
-        → 1 ≤ t.interval → HasIssues issues.now h
+        → 1 ≤ t.interval → Indexes index.now h
         → issues_of h ≡ before ++ issuance.now ∷ behind
         → option_to_list result ++ last_rows h behind ≡ last_rows h (issuance.now ∷ behind) }
 {
-    let last = recorded_issue(issues, &issuance.id)?;
+    let last = index.last_issue(&issuance.id)?;
     if last.day != issuance.day {
         return None;
     }
@@ -43,19 +40,19 @@ fn last_row(issues: &HashMap<IdKey, Issue, HashSeed>, issuance: &Issuance) -> Op
 // index of the first call (`place`) is 0.
 fn push_rows(
     rows: &mut Vec<SerialRow>,
-    issues: &HashMap<IdKey, Issue, HashSeed>,
+    index: &CallIndex,
     entry: &Entry,
     place: u32,
 ) -> Result<(), AllocError>
     requires { place < 4294967295 }
     ensures { OnOk result ((h : List Entry) (t : Terms) → IsLegal h t → 1 ≤ t.interval
-        → HasIssues issues.now h → slice_get h place ≡ Some entry.now
+        → Indexes index.now h → slice_get h place ≡ Some entry.now
         → rows.new.items ++ serial_rows_from h (place + 1) ≡ rows.old.items ++ serial_rows_from h
         place) }
 {
     for at in 0..entry.issued() {
         if let Some(issuance) = entry.issue(place + 1, at) {
-            if let Some(row) = last_row(issues, &issuance) {
+            if let Some(row) = last_row(index, &issuance) {
                 rows.push(row)?;
             }
         }
@@ -95,7 +92,7 @@ impl IndexedBook {
         let mut rows = Vec::new(alloc);
         for place in 0..len {
             let entry = self.index.entries.at(place as usize);
-            push_rows(&mut rows, &self.index.issues, &entry, place)?;
+            push_rows(&mut rows, &self.index, &entry, place)?;
         }
         Ok(rows)
     }
@@ -128,7 +125,7 @@ impl IndexedBook {
     pub fn serial_count(&self) -> usize
         ensures { result ≡ length (serial_rows self.now.index.entries.items) }
     {
-        self.index.issues.len()
+        self.index.issues.identifiers
     }
 
     /// Returns the rows of `closed`, in order of the calls that closed them.

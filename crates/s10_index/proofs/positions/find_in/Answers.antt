@@ -1,24 +1,18 @@
-use Rattle.std.proofs.Common.{◌≡◌, ◌∙◌, Some, None, sym}
-use Rattle.std.specs.List.{position_from}
-use Rattle.s10_history.specs.History.{has_key}
-use Rattle.s10_index.proofs.Placing.{none_placed, placed_call, placed_among}
+use Rattle.std.proofs.Common.{◌∙◌, sym}
+use Rattle.s10_index.proofs.Keyed.{found_call, found_none, placed_among}
 use Rattle.s10_index.proofs.positions.find_in.Goals as goal
 
 pub returns-in_err-place-clause-answer : goal.returns-in_err-place-clause-answer
 returns-in_err-place-clause-answer c has =
-    let none : position_from (has_key c.args.key.now.customer c.args.key.now.number) 0 c.args.calls.now.items
-    ≡ None =
-    sym (has c.args.key.now) ∙ sym c.position_of.ensures ∙ c.in_err-place.was in
     c.from_residual.ensures
-    ∙ sym (none_placed (has_key c.args.key.now.customer c.args.key.now.number) c.args.calls.now.items 0 none)
+    ∙ found_none c.args.calls.now.items c.args.customer c.args.number
+    (sym (c.position_of.ensures has) ∙ c.in_err-place.was)
 
 pub returns-clause-answer : goal.returns-clause-answer
 returns-clause-answer c has =
-    let found : position_from (has_key c.args.key.now.customer c.args.key.now.number) 0 c.args.calls.now.items
-    ≡ Some c.in_ok-place.place =
-    sym (has c.args.key.now) ∙ sym c.position_of.ensures ∙ c.in_ok-place.was in
-    c.get.ensures ∙ placed_call (has_key c.args.key.now.customer c.args.key.now.number) c.args.calls.now.items
-    c.in_ok-place.place found
+    c.get.ensures
+    ∙ found_call c.args.calls.now.items c.args.customer c.args.number c.in_ok-place.place has.keys
+    (sym (c.position_of.ensures has) ∙ c.in_ok-place.was)
 
 pub returns-in_err-place-clause-among : goal.returns-in_err-place-clause-among
 returns-in_err-place-clause-among c = rw c.from_residual.ensures tt

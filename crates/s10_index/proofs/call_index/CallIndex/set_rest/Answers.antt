@@ -16,5 +16,4 @@ returns-in-Some-clause-same c h was =
       positions = was.positions;
       issues = was.issues;
       ids = was.ids;
-      identifiers = was.identifiers;
     }

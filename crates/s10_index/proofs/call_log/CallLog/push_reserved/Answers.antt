@@ -1,6 +1,7 @@
 use Rattle.std.proofs.Common.{◌≡◌, ◌∙◌, ◌+◌, ◌++◌, ◌∷◌, [], length, ap, arith, length-append}
+use Rattle.std.proofs.lemmas.List.{length-map}
 use Rattle.s10_index.specs.CallLog.{CallList}
-use Rattle.s10_index.specs.CompactOutcomes.{sheet_of}
+use Rattle.s10_index.specs.CompactOutcomes.{sheet_of, entry_of}
 use Rattle.s10_index.proofs.Sheets.{calls-push, named-push, one_sheet}
 use Rattle.s10_index.proofs.call_log.CallLog.push_reserved.Goals as goal
 
@@ -18,6 +19,13 @@ invariant_of-self c =
           (omega (arith, sheets))
           c.push_reserved.ensures.items c.self.invariant.0 c.of-row.ensures.named,
       omega (arith, sheets, rows, one, c.self.invariant.1),
+      omega (
+        arith,
+        rows,
+        c.requires.few,
+        ap (λ (calls : CallList). length calls.items) c.self.view_is,
+        length-map was.rows.items (entry_of was.sheets.items),
+      ),
     )
 
 pub returns : goal.returns

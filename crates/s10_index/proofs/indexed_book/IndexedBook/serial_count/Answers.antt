@@ -8,5 +8,5 @@ use Rattle.s10_index.proofs.indexed_book.IndexedBook.serial_count.Goals as goal
 pub returns : goal.returns
 returns c =
     let h = c.args.self.now.index.entries.items in
-    c.len.ensures.len ∙ c.args.self.now.indexed.identifiers
+    c.args.self.now.indexed.issues.held.count
     ∙ sym (length-map (last_issues (issues_of h)) (row_in h))

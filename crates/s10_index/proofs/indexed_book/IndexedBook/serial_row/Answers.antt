@@ -7,8 +7,7 @@ use Rattle.s10_history.specs.declared.issuance.Issuance.{Issuance}
 use Rattle.s10_history.specs.Issues.{voided_after}
 use Rattle.s10_rows.specs.Tables.{serial_row}
 use Rattle.s10_rows.specs.declared.serial_row.SerialRow.{SerialRow}
-use Rattle.s10_index.specs.LastIssues.{issue_in_history}
-use Rattle.s10_index.proofs.Recording.{last_told}
+use Rattle.s10_index.proofs.Recording.{issue_in_history, last_told}
 use Rattle.s10_index.proofs.indexed_book.IndexedBook.serial_row.Goals as goal
 
 pub returns-in_err-issuance : goal.returns-in_err-issuance

@@ -24,7 +24,7 @@ loop-place-preserved c =
       c.interval-interval.ensures.range.0,
       ap (λ (s : Terms). s.interval) (c.settings.ensures tt),
     ) in
-    c.in_ok-push_rows.ensures h t c.args.self.now.legal pos c.args.self.now.indexed.issues at
+    c.in_ok-push_rows.ensures h t c.args.self.now.legal pos c.args.self.now.indexed at
     ∙ c.loop-place.invariant
 
 pub returns : goal.returns
