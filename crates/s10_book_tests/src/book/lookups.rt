@@ -185,3 +185,95 @@ fn ranges_that_no_ledger_grants_are_left_out(rt: HostRuntime) {
     is_left_out(&rt, 9, (7, *b"RA", 31, 40));
     is_left_out(&rt, 8, (7, *b"RA", 40, 31));
 }
+
+/// How many ranges are granted so that each order of them has several blocks.
+const MANY: u32 = 2_000;
+
+/// Returns the serial of range `num` of `MANY`: all serials below `MANY`, in an order that `step`
+/// gives. 1 gives an ascending order, `MANY - 1` a descending one.
+fn serial_of(num: u32, step: u32) -> u32 {
+    num.wrapping_mul(step) % MANY
+}
+
+/// Returns the ranges after `MANY` grants of a serial each, to customers 7 and 8 in turn.
+fn many_granted<R: Abort + AllocGlobal>(rt: &R, step: u32) -> Ranges {
+    let mut ranges = Ranges::new(rt.alloc(), HashSeed::fixed());
+    for num in 1..MANY + 1 {
+        let value = serial_of(num, step);
+        let granted = (7 + num % 2, *b"RA", value, value);
+        grant(rt, &mut ranges, &range(rt, num, granted));
+    }
+    ranges
+}
+
+/// Returns the least number of a range with a serial from `first` to `last`, by trying each.
+fn least_with(step: u32, first: u32, last: u32) -> Option<u32> {
+    for num in 1..MANY + 1 {
+        let value = serial_of(num, step);
+        if first <= value && value <= last {
+            return Some(num);
+        }
+    }
+    None
+}
+
+/// First and last serial: of one range, of some within a block, and of several blocks.
+const SPANS: &[(u32, u32)] = &[
+    (0, 0),
+    (1_999, 1_999),
+    (255, 257),
+    (511, 513),
+    (300, 900),
+    (100, 1_500),
+    (700, 5_000),
+    (0, 1_999),
+    (2_000, 2_001),
+];
+
+/// Asserts that the least number of each span is found.
+fn have_least(rt: &(impl Abort + Eprint), ranges: &Ranges, step: u32) {
+    let ra = service(rt, *b"RA");
+    let gb = country(rt, *b"GB");
+    for (first, last) in SPANS {
+        let found = ranges.covering_range(ra, gb, serial(rt, *first), serial(rt, *last));
+        let num = found.map(|range| range.num);
+        assert!(rt;
+            same(
+                rt,
+                &(step, *first, *last),
+                &num,
+                &least_with(step, *first, *last)
+            )
+        );
+    }
+}
+
+/// Asserts that the ranges of customer 7 are every second one, in order of their numbers.
+fn are_every_second(rt: &(impl Abort + Eprint), ranges: &Ranges, step: u32) {
+    let ra = service(rt, *b"RA");
+    let gb = country(rt, *b"GB");
+    let mut after = 0u32;
+    for num in 1..MANY + 1 {
+        if num % 2 == 0 {
+            let found = ranges.next_open_range(7, ra, gb, after);
+            after = found.map_or(0, |range| range.num);
+            assert!(rt; same(rt, &(step, num), &after, &num));
+        }
+    }
+    assert!(rt; ranges.next_open_range(7, ra, gb, after).is_none());
+}
+
+/// Asserts both for `MANY` ranges whose serials are in the order of the step.
+fn are_found_in_blocks<R: Abort + Eprint + AllocGlobal>(rt: &R, step: u32) {
+    let ranges = many_granted(rt, step);
+    have_least(rt, &ranges, step);
+    are_every_second(rt, &ranges, step);
+}
+
+// Serials in ascending, descending and mixed order.
+#[test]
+fn ranges_granted_in_any_order_are_found(rt: HostRuntime) {
+    are_found_in_blocks(&rt, 1);
+    are_found_in_blocks(&rt, MANY - 1);
+    are_found_in_blocks(&rt, 777);
+}
