@@ -7,7 +7,7 @@ pub mod IssueLogs
 pub mod Sheets
 pub mod LastDay
 pub mod Recording
-pub mod LastRows
+pub mod RowsSoFar
 pub mod IssueLemmas
 pub mod Voiding
 pub mod WrittenLemmas

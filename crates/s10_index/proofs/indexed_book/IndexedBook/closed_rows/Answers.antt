@@ -5,7 +5,7 @@ use Rattle.std.proofs.lemmas.List.{drop_all}
 use Rattle.std.proofs.lemmas.Result.{err_from_is_err_and}
 use Rattle.s10_rows.specs.declared.closed_row.ClosedRow.{ClosedRow}
 use Rattle.s10_rows.specs.Tables.{closed_rows, closed_rows_from}
-use Rattle.s10_index.proofs.LastRows.{from_place, grown, whole}
+use Rattle.s10_index.proofs.RowsSoFar.{from_place, grown, whole}
 use Rattle.s10_index.proofs.indexed_book.IndexedBook.closed_rows.Goals as goal
 use Rattle.s10_index.proofs.indexed_book.IndexedBook.closed_rows.Goals.{in-Some+in_ok-push}
 use Rattle.s10_index.proofs.indexed_book.IndexedBook.closed_rows.Goals.{in_default}

@@ -12,7 +12,7 @@ use Rattle.s10_ranges.specs.declared.ranges.Ranges.{Ranges}
 use Rattle.s10_rows.specs.declared.range_row.RangeRow.{RangeRow}
 use Rattle.s10_rows.specs.Tables.{range_row, range_rows}
 use Rattle.s10_index.specs.RowsFrom.{range_rows_from}
-use Rattle.s10_index.proofs.LastRows.{whole, range_row_next}
+use Rattle.s10_index.proofs.RowsSoFar.{whole, range_row_next}
 use Rattle.s10_index.proofs.indexed_book.IndexedBook.range_rows.Goals as goal
 
 pub loop-place-init : goal.loop-place-init
