@@ -75,6 +75,20 @@ pub fn replay_on<B: Book, R: Read, W: Write>(
     }
 }
 
+// Passes the datagrams of an input to a server that ends with them.
+fn replay_to_end<B: Book + Drop, R: Read, W: Write>(
+    mut server: Server<B>,
+    input: &mut R,
+    output: &mut W,
+) -> Result<u32, InputFault>
+    ensures { ((book : B) → B.honest book) → IfSome (R.remaining input.old) (λ bytes.
+        IfSome (W.contents output.old) (λ held. (after : List Entry)
+        × Replayed (B.history (book_of server)) (B.terms (book_of server)) bytes
+        (R.remaining input.new) held (W.contents output.new) result after)) }
+{
+    replay_on(&mut server, input, output)
+}
+
 /// Passes the datagrams of an input to the server of an empty ledger in memory, as `replay_on`
 /// does.
 ///
@@ -94,8 +108,7 @@ pub fn replay<R: Read, W: Write>(
         (W.contents output.new) result after)) }
 {
     let book = IndexedBook::new(alloc, HashSeed::fixed(), settings);
-    let mut server = Server::new(book);
-    replay_on(&mut server, input, output)
+    replay_to_end(Server::new(book), input, output)
 }
 
 /// Runs a replay over an empty ledger. If it ends early, the last line says why.
