@@ -1,7 +1,8 @@
 -- The awake ranges of a customer in the order of the holders.
-use Rattle.std.proofs.Common.{◌≡◌, ℕ, ◌+◌, ◌-◌, ◌*◌, ◌<◌, ◌≤◌, ltb, Bool, true, false, ◌&&◌, List}
+use Rattle.std.proofs.Common.{◌≡◌, ◌∙◌, ℕ, ◌+◌, ◌-◌, ◌*◌, ◌<◌, ◌≤◌, ltb, Bool, true, false, ◌&&◌, List}
 use Rattle.std.proofs.Common.{length, get_or, sym, ap, ap₂, subst, arith, inl, inr}
-use Rattle.std.specs.Prelude.{find, slice_get, Some, None}
+use Rattle.std.specs.Prelude.{find, slice_get, slice_range, Some, None}
+use Rattle.std.proofs.lemmas.List.Edits.{length-between, get_or-between}
 use Rattle.std.proofs.lemmas.Bool.{cases_lt, both_ways, false_from_ne_true, and_parts, and_from}
 use Rattle.s10_core.specs.Letters.{AreCapitals}
 use Rattle.s10_history.specs.declared.range.Range.{Range}
@@ -15,7 +16,7 @@ use Rattle.s10_ranges.specs.Sound.{AreSound}
 use Rattle.s10_ranges.specs.declared.mark.Mark.{Mark}
 use Rattle.s10_ranges.specs.declared.rest.Rest.{Rest}
 use Rattle.s10_ranges.specs.declared.rest.Rest.TheVariants.{Unknown}
-use Rattle.s10_ranges.specs.Rests.{is_resting_at, rests_on}
+use Rattle.s10_ranges.specs.Rests.{is_resting_at, rests_on, rests_along}
 use Rattle.s10_ranges.proofs.Orders.{at_place}
 use Rattle.s10_ranges.proofs.Found.{none_in_order, first_in_order}
 use Rattle.s10_ranges.proofs.HeldOrder.{IsCut, IsHeld, held_parts, held_from, held_order, not_before}
@@ -168,3 +169,37 @@ rests_is rs order marks rests day n sound places j d lt =
     let at = sound (get_or order j 0) d (places j lt) in
     let place : (range_at rs order j d).num - 1 ≡ get_or order j 0 = omega (arith, at.num) in
     ap (λ i. is_resting_at (slice_get marks i) (get_or rests i Unknown) day n) place
+
+-- The index at a position of a part of the order.
+pub part_index : (order part : List ℕ) (from to k : ℕ) → part ≡ slice_range order from to
+    → to ≤ length order → k < length part → (from + k < to)
+    × (get_or order (from + k) 0 ≡ get_or part k 0)
+part_index order part from to k is within lt =
+    let long = length-between order from to within in
+    let inside : from + k < to = omega (arith, long, ap length is, lt) in
+    (inside, sym (ap (λ l. get_or l k 0) is ∙ get_or-between order from to k 0 inside))
+
+-- Whether a range rests depends on its index alone.
+pub rests_moved : (marks : List Mark) (rests : List Rest) (order part : List ℕ) (day n i k : ℕ)
+    → get_or order i 0 ≡ get_or part k 0
+    → rests_along marks rests order day n i ≡ rests_along marks rests part day n k
+rests_moved marks rests order part day n i k same =
+    ap (λ j. is_resting_at (slice_get marks j) (get_or rests j Unknown) day n) same
+
+-- The ranges before a part rest, and so do the first of the part.
+pub rests_before : (marks : List Mark) (rests : List Rest) (order part : List ℕ)
+    (day n start from to k : ℕ) → part ≡ slice_range order from to → to ≤ length order
+    → k ≤ length part
+    → ((j : ℕ) → start ≤ j → j < from → rests_along marks rests order day n j ≡ true)
+    → ((i : ℕ) → i < k → rests_along marks rests part day n i ≡ true)
+    → (j : ℕ) → start ≤ j → j < from + k → rests_along marks rests order day n j ≡ true
+rests_before marks rests order part day n start from to k is within few before here j le lt =
+    elim (cases_lt j from) [
+      | inl less ↦ before j le less
+      | inr ge ↦
+          let i : ℕ = j - from in
+          let at = part_index order part from to i is within (omega (arith, few, lt)) in
+          let there : from + i ≡ j = omega arith in
+          rests_moved marks rests order part day n j i
+          (ap (λ x. get_or order x 0) (sym there) ∙ at.1) ∙ here i (omega (arith, lt))
+    ]

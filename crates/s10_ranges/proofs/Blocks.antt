@@ -3,15 +3,17 @@ use Rattle.std.proofs.Common.{◌≡◌, ◌∙◌, ℕ, zero, suc, ◌+◌, ◌
 use Rattle.std.proofs.Common.{true, false, ◌&&◌, ◌||◌, eqb, ltb}
 use Rattle.std.proofs.Common.{length, get_or, set, take, drop, refl, sym, ap, ap₂, arith, inl, inr}
 use Rattle.std.proofs.Common.{append_assoc, append-nil, add-one, length-append}
-use Rattle.std.specs.Prelude.{insert}
+use Rattle.std.specs.Prelude.{insert, min, slice_range}
+use Rattle.std.proofs.Math.Nat.{min-eq_left, min-eq_right}
 use Rattle.std.specs.List.{concat}
 use Rattle.std.proofs.lemmas.Bool.{cases_lt, cases_order}
 use Rattle.std.proofs.lemmas.Bool.Decides.{nat_tests}
 use Rattle.std.proofs.lemmas.List.{get_or_append_left, get_or-append-add, take-append-drop}
 use Rattle.std.proofs.lemmas.List.{length-set, length-take-le, length-drop, take-set, take-append-le}
+use Rattle.std.proofs.lemmas.List.{ext_get_or}
 use Rattle.std.proofs.lemmas.List.{get_or-set_same, get_or-set_other, take-take}
 use Rattle.std.proofs.lemmas.List.Edits.{insert-append_left, insert-append_right}
-use Rattle.std.proofs.lemmas.List.Edits.{length-insert, get_or-insert_below, get_or-insert_at}
+use Rattle.std.proofs.lemmas.List.Edits.{length-between, get_or-between, length-insert, get_or-insert_below, get_or-insert_at}
 use Rattle.std.proofs.lemmas.List.Edits.{get_or-insert_above, insert_end}
 use Rattle.s10_ranges.specs.declared.block.TheConstants.{BLOCK_SIZE, HALF}
 use Rattle.s10_ranges.specs.declared.cursor.Cursor.{Cursor}
@@ -366,3 +368,46 @@ before_lower bs cursor end at to holds =
           let same : start_of bs cursor.block ≡ start_of bs end.block = ap (start_of bs) here.0 in
           omega (arith, same, here.1)
     ]
+
+-- A part of a block, in the list.
+pub part_of_block : (bs : List (List ℕ)) (k from to : ℕ) → k < length bs → from ≤ to
+    → to ≤ length (get_or bs k [])
+    → slice_range (get_or bs k []) from to
+    ≡ slice_range (concat bs) (start_of bs k + from) (start_of bs k + to)
+part_of_block bs k from to lt le within =
+    let all : start_of bs k + to ≤ length (concat bs) =
+    omega (arith, start_next bs k lt, start_within bs (k + 1), within) in
+    let one = length-between (get_or bs k []) from to within in
+    let two = length-between (concat bs) (start_of bs k + from) (start_of bs k + to) all in
+    ext_get_or 0 (slice_range (get_or bs k []) from to)
+    (slice_range (concat bs) (start_of bs k + from) (start_of bs k + to)) (omega (arith, one, two))
+    (λ i here.
+    let inside : from + i < to = omega (arith, one, here) in
+    let assoc : start_of bs k + (from + i) ≡ start_of bs k + from + i = omega arith in
+    get_or-between (get_or bs k []) from to i 0 inside
+    ∙ sym (index_at bs k (from + i) (omega (arith, inside, within)))
+    ∙ ap (λ j. get_or (concat bs) j 0) assoc
+    ∙ sym (get_or-between (concat bs) (start_of bs k + from) (start_of bs k + to) i 0
+    (omega (arith, inside))))
+
+-- The part of a block before a later position is up to that position, or up to the next block.
+pub part_here : (bs : List (List ℕ)) (cursor end : Cursor) → IsCursor bs end
+    → cursor.block ≡ end.block → cursor.block < length bs
+    → min (position_of bs end) (start_of bs (cursor.block + 1)) ≡ start_of bs cursor.block + end.offset
+part_here bs cursor end to same lt =
+    let start : start_of bs end.block ≡ start_of bs cursor.block = ap (start_of bs) (sym same) in
+    let block : length (get_or bs end.block []) ≡ length (get_or bs cursor.block []) =
+    ap (λ k. length (get_or bs k [])) (sym same) in
+    let inside = to.inside (omega (arith, same, lt)) in
+    let le : position_of bs end ≤ start_of bs (cursor.block + 1) =
+    omega (arith, start_next bs cursor.block lt, inside, block, start) in
+    min-eq_left le ∙ (let e : position_of bs end ≡ start_of bs cursor.block + end.offset =
+    omega (arith, start) in e)
+
+pub part_whole : (bs : List (List ℕ)) (cursor end : Cursor) → cursor.block < end.block
+    → cursor.block < length bs → min (position_of bs end) (start_of bs (cursor.block + 1))
+    ≡ start_of bs cursor.block + length (get_or bs cursor.block [])
+part_whole bs cursor end before lt =
+    let le : start_of bs (cursor.block + 1) ≤ position_of bs end =
+    omega (arith, start_ordered bs (cursor.block + 1) end.block (omega arith)) in
+    min-eq_right le ∙ start_next bs cursor.block lt

@@ -1,7 +1,7 @@
 -- Defines what is known of ranges that give nothing for a while.
 use Rattle.std.specs.Prelude.{◌≡◌, ℕ, ◌-◌, ◌==◌, ◌<◌, nat_lt, nat_le, Bool, true, false, not, ◌&&◌}
-use Rattle.std.specs.Prelude.{List, length, Option, Some, None, slice_get, slice_index_or, vec_len}
-use Rattle.std.specs.Prelude.{vec_capacity, if◌then◌else◌}
+use Rattle.std.specs.Prelude.{List, length, Option, Some, None, slice_get, slice_index, slice_index_or}
+use Rattle.std.specs.Prelude.{vec_len, vec_capacity, if◌then◌else◌}
 use Rattle.s10_history.specs.declared.entry.Entry.{Entry}
 use Rattle.s10_history.specs.declared.range.Range.{Range}
 use Rattle.s10_history.specs.declared.issue.Issue.{Issue}
@@ -76,3 +76,18 @@ is_awake marks rests customer service country day interval r =
 abbrev pub is_awake_after : List Mark → List Rest → ℕ → ℕ → ℕ × ℕ → ℕ × ℕ → ℕ → ℕ → Range → Bool
 is_awake_after marks rests after customer service country day interval r =
     nat_lt after r.num && is_awake marks rests customer service country day interval r
+
+-- Whether the range at position k of the indices gives nothing on the day.
+abbrev pub rests_along : List Mark → List Rest → List ℕ → ℕ → ℕ → ℕ → Bool
+rests_along marks rests places day interval k =
+    is_resting_at (slice_get marks (slice_index places k))
+    (slice_index_or rests (slice_index places k) Unknown) day interval
+
+-- The first of the indices whose range may give something on the day: none if all of them rest.
+abbrev pub IsFirstAwake : List Mark → List Rest → List ℕ → ℕ → ℕ → Option ℕ → Type 0
+IsFirstAwake marks rests places day interval None = (k : ℕ) → k < length places
+    → rests_along marks rests places day interval k ≡ true
+IsFirstAwake marks rests places day interval (Some place) =
+    (k : ℕ) × (k < length places) × (slice_index places k ≡ place)
+    × (rests_along marks rests places day interval k ≡ false)
+    × ((j : ℕ) → j < k → rests_along marks rests places day interval j ≡ true)

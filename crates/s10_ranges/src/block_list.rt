@@ -1,7 +1,7 @@
 //! Indices in an order, in blocks.
 
 ghost use Rattle.std.specs.Prelude.{◌≡◌, ◌<◌, ◌≤◌, ◌+◌, ◌++◌, ◌∷◌, [], length, insert, set};
-ghost use Rattle.std.specs.Prelude.{MatchOption, OnOk, slice_index, slice_index_or};
+ghost use Rattle.std.specs.Prelude.{MatchOption, OnOk, min, slice_index, slice_index_or, slice_range};
 ghost use Rattle.std.specs.Option.{ForSome};
 ghost use Rattle.s10_ranges.specs.Blocks.{AreBlocks};
 
@@ -79,21 +79,31 @@ impl BlockList {
         Some(block.indices()[cursor.offset])
     }
 
-    /// Returns the position after that of an index.
-    pub fn cursor_after(&self, cursor: Cursor) -> Cursor
-        requires at { IsCursor self.now.blocks.items cursor }
-        requires inside { position_of self.now.blocks.items cursor
-            < length (indices_of self.now) }
+    /// Returns the indices from a position up to, but without, `end`, as far as they are in its block.
+    pub fn part(&self, cursor: Cursor, end: Cursor) -> &[u32]
+        requires start { IsCursor self.now.blocks.items cursor }
+        requires end { IsCursor self.now.blocks.items end }
+        requires before { position_of self.now.blocks.items cursor
+            < position_of self.now.blocks.items end }
+        ensures { result.now ≡ slice_range (indices_of self.now)
+            (position_of self.now.blocks.items cursor)
+            (min (position_of self.now.blocks.items end)
+            (start_of self.now.blocks.items (cursor.block + 1))) }
+    {
+        let indices = self.blocks[cursor.block].indices();
+        if cursor.block == end.block {
+            return &indices[cursor.offset..end.offset];
+        }
+        &indices[cursor.offset..]
+    }
+
+    /// Returns the position of the first index after the block of an index.
+    pub fn next_block(&self, cursor: Cursor) -> Cursor
+        requires { cursor.block < length self.now.blocks.items }
         ensures at { IsCursor self.now.blocks.items result }
         ensures next { position_of self.now.blocks.items result
-            ≡ position_of self.now.blocks.items cursor + 1 }
+            ≡ start_of self.now.blocks.items (cursor.block + 1) }
     {
-        if cursor.offset + 1 < self.blocks[cursor.block].indices().len() {
-            return Cursor {
-                block: cursor.block,
-                offset: cursor.offset + 1,
-            };
-        }
         Cursor {
             block: cursor.block + 1,
             offset: 0,

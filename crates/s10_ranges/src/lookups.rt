@@ -3,6 +3,7 @@
 ghost use Rattle.std.specs.Prelude.{◌≡◌, ◌-◌, ◌<◌, ◌==◌, find, slice_get, slice_index_or, None};
 ghost use Rattle.s10_history.specs.History.{is_held_after, overlaps};
 ghost use Rattle.s10_ranges.specs.Rests.{is_awake_after, is_resting_at as rests_at};
+ghost use Rattle.s10_ranges.specs.Rests.{IsFirstAwake};
 ghost use Rattle.s10_ranges.specs.declared.rest.Rest.TheVariants.{Unknown};
 ghost use Rattle.s10_ranges.specs.declared.sort_key.SortKey.TheVariants.{First, Last, Holder};
 ghost use Rattle.s10_ranges.specs.BlockList.{indices_of};
@@ -79,6 +80,24 @@ fn is_resting_at(marks: &[Mark], rests: &[Rest], place: usize, day: u32, interva
     }
 }
 
+// Returns the first of the indices whose range may give something on the day.
+fn first_awake(
+    places: &[u32],
+    marks: &[Mark],
+    rests: &[Rest],
+    day: u32,
+    interval: u32,
+) -> Option<u32>
+    ensures { IsFirstAwake marks.now rests.now places.now day interval result }
+{
+    for place in places {
+        if !is_resting_at(marks, rests, *place as usize, day, interval) {
+            return Some(*place);
+        }
+    }
+    None
+}
+
 // Returns the awake range of the holder key with the least number above `after`.
 pub(crate) fn next_awake_in(
     ranges: &[Range],
@@ -104,15 +123,12 @@ pub(crate) fn next_awake_in(
     let mut cursor = cursor_at(ranges, by_holder, SortKey::Holder, low);
     let high = holder_sort_key(held.holder, held.service, held.country, 4_294_967_296);
     let end = cursor_at(ranges, by_holder, SortKey::Holder, high);
-    while let Some(index) = by_holder.at(cursor) {
-        if !cursor.is_before(end) {
-            return None;
+    while cursor.is_before(end) {
+        let part = by_holder.part(cursor, end);
+        if let Some(place) = first_awake(part, marks, rests, day, interval) {
+            return Some(ranges[place as usize]);
         }
-        let place = index as usize;
-        if !is_resting_at(marks, rests, place, day, interval) {
-            return Some(ranges[place]);
-        }
-        cursor = by_holder.cursor_after(cursor);
+        cursor = by_holder.next_block(cursor);
     }
     None
 }
