@@ -12,11 +12,11 @@ abbrev pub items_in : {T : Type 0} → List (Vec T Global) → List T
 items_in [] = []
 items_in (block ∷ blocks) = block.items ++ items_in blocks
 
--- The blocks hold n items: each block is full until the items end, and has memory for 4,096.
+-- The blocks hold n items: each block is full until the items end, and has memory for 1,024.
 abbrev pub AreFilled : {T : Type 0} → List (Vec T Global) → ℕ → Type 0
 AreFilled [] n = n ≡ 0
-AreFilled (block ∷ blocks) n = (length block.items ≡ min n 4096) × (4096 ≤ vec_capacity block)
-    × AreFilled blocks (n - 4096)
+AreFilled (block ∷ blocks) n = (length block.items ≡ min n 1024) × (1024 ≤ vec_capacity block)
+    × AreFilled blocks (n - 1024)
 
 -- The blocks hold n items, and are at most 2^32.
 pub record AreBlocks {T : Type 0} (blocks : List (Vec T Global)) (n : ℕ) : Type 0 where

@@ -7,18 +7,18 @@ use std::alloc::{AllocError, Global};
 use std::marker::Model;
 
 // The number of items of a full block.
-const BLOCK: usize = 4_096;
+const BLOCK: usize = 1_024;
 
 // The greatest number of blocks.
 const MAX_BLOCKS: usize = 4_294_967_296;
 
-/// A list that grows by blocks of 4,096 items. No item moves when it grows, and the memory that is
+/// A list that grows by blocks of 1,024 items. No item moves when it grows, and the memory that is
 /// reserved and not used is that of one block.
 #[derive(Drop)]
 pub(crate) struct Blocks<T: Copy> {
     /// Where blocks are allocated.
     alloc: Global,
-    /// The blocks, each with memory for 4,096 items. All before the last item are full.
+    /// The blocks, each with memory for 1,024 items. All before the last item are full.
     blocks: Vec<Vec<T>>,
     /// The number of items.
     count: usize,
@@ -32,7 +32,7 @@ impl<T: Copy> Model for Blocks<T> {
 
     ghost view = { λ list. record {
       items = items_in list.blocks.items;
-      room = 4096 * length list.blocks.items - list.count;
+      room = 1024 * length list.blocks.items - list.count;
     } };
 
     ghost invariant = { λ list. AreBlocks list.blocks.items list.count };

@@ -13,7 +13,7 @@ invariant_of-self-2 g c =
     let grown : c.push_reserved.new.self.items ≡ all.blocks.items ++ block ∷ [] =
     c.push_reserved.ensures.items
     ∙ ap (λ (l : List (Vec g.row.T.Denot Global)). l ++ block ∷ []) c.reserve.ensures.items in
-    let roomy : 4096 ≤ vec_capacity block = omega (arith, c.in_ok-block.ensures.capacity) in
+    let roomy : 1024 ≤ vec_capacity block = omega (arith, c.in_ok-block.ensures.capacity) in
     let Filled : List (Vec g.row.T.Denot Global) → Type 0 = λ l. AreFilled l all.count in
     record {
       filled = subst Filled (sym grown)

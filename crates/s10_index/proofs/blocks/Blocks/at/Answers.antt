@@ -47,7 +47,7 @@ returns g c =
     ) in
     slice_get_read c.args.self.now.items (length c.args.self.now.items) c.args.place item refl
     c.requires (c.index-2.ensures
-    ∙ ap (λ (b : Vec g.row.T.Denot Global). get_or b.items (c.args.place % 4096) item)
+    ∙ ap (λ (b : Vec g.row.T.Denot Global). get_or b.items (c.args.place % 1024) item)
     c.index.ensures
     ∙ item_at all.blocks.items all.count c.args.place c.index.result.now item
     c.self.invariant.filled lt

@@ -11,7 +11,7 @@ pub push_reserved-requires : goal.push_reserved-requires
 push_reserved-requires g c =
     let all = c.self.inside in
     let block = c.index_mut-block.result.now in
-    let lt : all.count < 4096 * length all.blocks.items =
+    let lt : all.count < 1024 * length all.blocks.items =
     omega (arith, c.requires, ap (λ (v : BlockList g.row.T.Denot). v.room) c.self.view_is) in
     let value = c.index_mut-block.ensures.value in
     omega (
@@ -20,7 +20,7 @@ push_reserved-requires g c =
       ap (λ (b : Vec g.row.T.Denot Global). length b.items) value,
       ap (λ (b : Vec g.row.T.Denot Global). vec_capacity b) value,
       next_within all.blocks.items all.count block c.self.invariant.filled lt,
-      block_room all.blocks.items all.count (all.count / 4096) block c.self.invariant.filled
+      block_room all.blocks.items all.count (all.count / 1024) block c.self.invariant.filled
           (omega (arith, lt)),
     )
 
@@ -29,18 +29,18 @@ invariant_of-self g c =
     let all = c.self.inside in
     let block = c.index_mut-block.result.now in
     let new = c.push_reserved.new.self in
-    let lt : all.count < 4096 * length all.blocks.items =
+    let lt : all.count < 1024 * length all.blocks.items =
     omega (arith, c.requires, ap (λ (v : BlockList g.row.T.Denot). v.room) c.self.view_is) in
     let value = c.index_mut-block.ensures.value in
-    let long : length new.items ≡ all.count % 4096 + 1 =
+    let long : length new.items ≡ all.count % 1024 + 1 =
     ap length c.push_reserved.ensures.items ∙ length_push block.items c.args.item
     ∙ ap (λ (n : ℕ). n + 1) (ap (λ (b : Vec g.row.T.Denot Global). length b.items) value
     ∙ next_within all.blocks.items all.count block c.self.invariant.filled lt) in
-    let roomy : 4096 ≤ vec_capacity new = omega (
+    let roomy : 1024 ≤ vec_capacity new = omega (
       arith,
       c.push_reserved.ensures.capacity,
       ap (λ (b : Vec g.row.T.Denot Global). vec_capacity b) value,
-      block_room all.blocks.items all.count (all.count / 4096) block c.self.invariant.filled
+      block_room all.blocks.items all.count (all.count / 1024) block c.self.invariant.filled
           (omega (arith, lt)),
     ) in
     record {
@@ -54,7 +54,7 @@ returns-clause-items g c =
     let all = c.self.inside in
     let block = c.index_mut-block.result.now in
     let new = c.push_reserved.new.self in
-    let lt : all.count < 4096 * length all.blocks.items =
+    let lt : all.count < 1024 * length all.blocks.items =
     omega (arith, c.requires, ap (λ (v : BlockList g.row.T.Denot). v.room) c.self.view_is) in
     push_item all.blocks.items all.count block new c.args.item c.self.invariant.filled lt
     (c.push_reserved.ensures.items ∙ ap (λ (b : Vec g.row.T.Denot Global). b.items

@@ -39,21 +39,21 @@ pub invariant_of-self : goal.invariant_of-self
 invariant_of-self g c =
     let all = c.self.inside in
     let block = c.index_mut-block.result.now in
-    let there : c.args.place / 4096 < length all.blocks.items = omega (
+    let there : c.args.place / 1024 < length all.blocks.items = omega (
       arith,
       c.requires,
       ap (λ (v : BlockList g.row.T.Denot). length v.items) c.self.view_is,
       items_count all.blocks.items all.count c.self.invariant.filled,
       items_fit all.blocks.items all.count c.self.invariant.filled,
     ) in
-    let Roomy : Vec g.row.T.Denot Global → Type 0 = λ b. 4096 ≤ vec_capacity b in
+    let Roomy : Vec g.row.T.Denot Global → Type 0 = λ b. 1024 ≤ vec_capacity b in
     record {
-      filled = set_filled all.blocks.items all.count (c.args.place / 4096) block
-          (with_item block (c.args.place % 4096) c.args.item) c.self.invariant.filled
-          (length-set block.items (c.args.place % 4096) c.args.item
+      filled = set_filled all.blocks.items all.count (c.args.place / 1024) block
+          (with_item block (c.args.place % 1024) c.args.item) c.self.invariant.filled
+          (length-set block.items (c.args.place % 1024) c.args.item
           ∙ ap (λ (b : Vec g.row.T.Denot Global). length b.items) c.index_mut-block.ensures.value)
           (subst Roomy (sym c.index_mut-block.ensures.value) (block_room all.blocks.items all.count
-          (c.args.place / 4096) block c.self.invariant.filled there));
+          (c.args.place / 1024) block c.self.invariant.filled there));
       few = rw length-set c.self.invariant.few;
     }
 
@@ -70,8 +70,8 @@ returns-clause-items g c =
       items_count all.blocks.items all.count c.self.invariant.filled,
     ) in
     set_item all.blocks.items all.count c.args.place block
-    (with_item block (c.args.place % 4096) c.args.item) c.args.item c.self.invariant.filled lt
-    (ap (λ (b : Vec g.row.T.Denot Global). set b.items (c.args.place % 4096) c.args.item)
+    (with_item block (c.args.place % 1024) c.args.item) c.args.item c.self.invariant.filled lt
+    (ap (λ (b : Vec g.row.T.Denot Global). set b.items (c.args.place % 1024) c.args.item)
     c.index_mut-block.ensures.value)
     ∙ ap (λ l. set l c.args.place c.args.item) view
 
