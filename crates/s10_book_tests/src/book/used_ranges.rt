@@ -1,5 +1,5 @@
-//! Five hundred calls over many ranges that are used up, closed or free again, over the book with an
-//! index and the book without.
+//! A thousand calls in two runs over many ranges that are used up, closed or free again, over the book
+//! with an index and the book without.
 
 ghost use Rattle.std.specs.Prelude.{◌≤◌, ◌<◌};
 
@@ -103,10 +103,11 @@ fn call_agrees<A: Book, B: Book>(
     }
 }
 
-// Returns how many calls have equal outcomes in both books, and which kinds of outcomes occurred.
-fn calls_agree<A: Book, B: Book>(one: &mut A, other: &mut B) -> (u32, [bool; 7]) {
+// Returns how many calls have equal outcomes in both books, and which kinds of outcomes occurred. The
+// calls follow from the values after `start`.
+fn calls_agree<A: Book, B: Book>(one: &mut A, other: &mut B, start: u32) -> (u32, [bool; 7]) {
     let mut seen = [false; 7];
-    let mut value = 1;
+    let mut value = start;
     for place in 0..CALLS {
         value = next_value(value);
         if !call_agrees(one, other, place, value, &mut seen) {
@@ -120,7 +121,16 @@ fn calls_agree<A: Book, B: Book>(one: &mut A, other: &mut B) -> (u32, [bool; 7])
 fn both_books_pass_over_used_and_closed_ranges_alike(rt: HostRuntime) {
     let mut plain = plain_book(rt.alloc());
     let mut indexed = indexed_book(rt.alloc());
-    let alike = calls_agree(&mut plain, &mut indexed);
+    let alike = calls_agree(&mut plain, &mut indexed, 1);
+    assert!(rt; same(&rt, &"calls", &alike, &(CALLS, [true; 7])));
+    have_equal_calls_and_reports(&rt, plain, indexed, CALLS, &[20_200]);
+}
+
+#[test]
+fn both_books_pass_over_other_ranges_alike(rt: HostRuntime) {
+    let mut plain = plain_book(rt.alloc());
+    let mut indexed = indexed_book(rt.alloc());
+    let alike = calls_agree(&mut plain, &mut indexed, 40_000);
     assert!(rt; same(&rt, &"calls", &alike, &(CALLS, [true; 7])));
     have_equal_calls_and_reports(&rt, plain, indexed, CALLS, &[20_200]);
 }
