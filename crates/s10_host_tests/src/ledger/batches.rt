@@ -182,7 +182,7 @@ fn replies_while_pending<R: Abort + AllocGlobal>(rt: &R) -> (bool, bool) {
     let _ = server.handle(SECOND.request, 20_000);
     let ended = match link(rt.alloc(), (FIRST, FIRST)) {
         Ok(mut link) => ends(
-            rt.alloc(),
+            &mut BatchRoom::new(rt.alloc()),
             &mut server,
             &mut link,
             (FIRST, FIRST),
