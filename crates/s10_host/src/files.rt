@@ -7,6 +7,7 @@ ghost use Rattle.sqlite_wal.specs.Files.{image_at};
 ghost use Rattle.s10_host.specs.Files.{IsFoundIn, IsPlain, Copies, IsFileFault, IsAbsenceOr};
 
 use crate::ledger_file::LedgerFile;
+use crate::opened_files::open_with_cache;
 use s10_ledger::OpenFault;
 use sqlite::{Connection, Error, ErrorCode, FileFrom, FileStore, Files, Start};
 use sqlite_disk::Disk;
@@ -188,7 +189,7 @@ fn connect<S: Start>(
     ensures refused { IfErr result IsFileFault }
 {
     eprint_size(rt, file.path);
-    match Connection::open_from(rt, file.path, false, start) {
+    match open_with_cache(rt, file.path, start) {
         Ok(connection) => Ok(connection),
         Err((error, files)) => {
             // If the files were not returned, another program may have them open.

@@ -144,8 +144,8 @@ fn is_empty(rt: &HostRuntime, path: &str) -> bool {
     matches!(len_of(rt, path), Ok(Some(0)))
 }
 
-// Returns the length of a file in bytes, or `None` if it does not exist.
-fn len_of(rt: &HostRuntime, path: &str) -> io::Result<Option<u64>> {
+/// Returns the length of a file in bytes, or `None` if it does not exist.
+pub(crate) fn len_of(rt: &HostRuntime, path: &str) -> io::Result<Option<u64>> {
     match fs::metadata(rt, path) {
         Ok(metadata) => Ok(Some(metadata.len())),
         Err(error) if error.kind() == ErrorKind::NotFound => Ok(None),

@@ -18,6 +18,7 @@ mod loop_resources;
 mod looping;
 mod notes;
 mod on_file;
+mod opened_files;
 mod over_store;
 mod progress;
 mod report;

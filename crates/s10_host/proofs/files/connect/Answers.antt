@@ -1,10 +1,10 @@
 use Rattle.s10_host.proofs.files.connect.Goals as goal
 
 pub returns-in-Ok-clause-found : goal.returns-in-Ok-clause-found
-returns-in-Ok-clause-found g c clean = (c.in-Ok.ensures.opened clean, c.in-Ok.ensures.found clean)
+returns-in-Ok-clause-found g c = c.in-Ok.ensures.found
 
 pub returns-in-Ok-clause-plain : goal.returns-in-Ok-clause-plain
-returns-in-Ok-clause-plain g c clean blank = c.in-Ok.ensures.sums clean blank
+returns-in-Ok-clause-plain g c = c.in-Ok.ensures.plain
 
 pub returns-after-is_some-clause-refused : goal.returns-after-is_some-clause-refused
 returns-after-is_some-clause-refused g c = c.fault_of_opening.ensures

@@ -1,0 +1,119 @@
+//! The files at a path, opened as a database with a cache that holds the whole file if it can.
+
+ghost use Rattle.std.specs.Prelude.{codes, ◌≡◌, ◌/◌, true, false, min, max, IsTrue, IfOk};
+ghost use Rattle.sqlite_wal.specs.Files.{image_at};
+ghost use Rattle.sqlite_std_file.specs.File.{file_is_usable, IsFresh};
+ghost use Rattle.s10_host.specs.Files.{IsFoundIn, IsPlain};
+
+use crate::files::{ClosedFiles, FileConnection};
+use crate::ledger_file::len_of;
+use sqlite::{Connection, Error, ErrorCode, FileFrom, Leftover, Options, Start};
+use sqlite_std_file::OpenError;
+use std::hash::{BuildHasher, RandomState};
+use std::io::ErrorKind;
+
+/// The length in bytes of a page of a database file.
+const PAGE_LEN: u64 = 4096;
+
+/// The most pages that a cache holds: 64 MiB. A larger one makes the opening of a large ledger no
+/// faster.
+const MAX_CACHE_PAGES: u64 = 16_000;
+
+const CANNOT_OPEN: Error = Error::SqliteFailure(ErrorCode::CannotOpen);
+
+const NO_MEMORY: Error = Error::SqliteFailure(ErrorCode::OutOfMemory);
+
+/// Why files were not opened as a database, with what is left of them if the system opened them.
+pub(crate) type OpeningFault<S> = (Error, Option<Leftover<FileFrom<S>>>);
+
+/// Opens the files at a path as a database, and creates those that are missing. The cache holds
+/// the whole file, up to 64 MiB. New files have no checksums.
+///
+/// # Errors
+///
+/// - `CannotOpen` without files if the system cannot open them, or no seed could be drawn.
+/// - `DatabaseBusy` without files if another process has them open.
+/// - `OutOfMemory` if out of memory.
+/// - Any error of the store with what is left of the files.
+pub(crate) fn open_with_cache<S: Start>(
+    rt: &HostRuntime,
+    path: &str,
+    start: S,
+) -> Result<FileConnection<S>, OpeningFault<S>>
+    ensures idle { IfOk result (λ connection. connection.in_transaction ≡ false) }
+    ensures found { IfOk result (IsFoundIn (image_at S.Start)) }
+    ensures plain { IfOk result (IsPlain (image_at S.Start)) }
+{
+    let files = match open_pair(rt, path, start) {
+        Ok(files) => files,
+        Err(error) => return Err((error, None)),
+    };
+    let Ok(keys) = RandomState::new(rt) else {
+        return Err((CANNOT_OPEN, None));
+    };
+    let options = options_for(keys.hash_one(&0u8), file_len(rt, path));
+    match Connection::open_files_with(rt.alloc(), files, options, false) {
+        Ok(mut connection) => {
+            connection.set_clock(rt);
+            Ok(connection)
+        }
+        Err((error, left)) => Err((error, Some(left))),
+    }
+}
+
+// Opens and locks the file and its log. A path that SQLite would not take for a file's is refused.
+fn open_pair<S: Start>(rt: &HostRuntime, path: &str, start: S) -> Result<ClosedFiles<S>, Error>
+    ensures memory { path.now ≡ codes ":memory:"
+        → result ≡ Err (Error.SqliteFailure ErrorCode.CannotOpen) }
+    ensures usable { IfOk result (λ files. IsTrue (file_is_usable S.Start files.log)
+        × IsTrue (file_is_usable S.Start files.db)) }
+    ensures fresh { IfOk result (λ files. IsFresh true files.log × IsFresh false files.db) }
+{
+    if path == ":memory:" || path.starts_with("file:") {
+        return Err(CANNOT_OPEN);
+    }
+    match sqlite_std_file::open(rt, path, start) {
+        Ok(files) => Ok(files),
+        Err(fault) => Err(error_of(fault)),
+    }
+}
+
+// Returns the store's error for files that the system did not open.
+fn error_of(fault: OpenError) -> Error
+    ensures busy { fault ≡ OpenError.Busy
+        → result ≡ Error.SqliteFailure ErrorCode.DatabaseBusy }
+    ensures memory { fault ≡ OpenError.OutOfMemory
+        → result ≡ Error.SqliteFailure ErrorCode.OutOfMemory }
+    ensures journal { fault ≡ OpenError.HotJournal
+        → result ≡ Error.SqliteFailure ErrorCode.CannotOpen }
+{
+    match fault {
+        OpenError::Busy => Error::SqliteFailure(ErrorCode::DatabaseBusy),
+        OpenError::OutOfMemory => NO_MEMORY,
+        OpenError::Io(cause) if cause.kind() == ErrorKind::OutOfMemory => NO_MEMORY,
+        OpenError::Io(_) | OpenError::HotJournal => CANNOT_OPEN,
+    }
+}
+
+// Returns the length of the database file in bytes, or 0 if it cannot be looked up.
+fn file_len(rt: &HostRuntime, path: &str) -> u64 {
+    match len_of(rt, path) {
+        Ok(Some(len)) => len,
+        Ok(None) | Err(_) => 0,
+    }
+}
+
+// Returns the options of a store for a file of this length in bytes. Its cache is never smaller
+// than the store's own.
+fn options_for(seed: u64, len: u64) -> Options
+    ensures cache { result.cache_pages ≡ max 2000 (min 16000 (len / 4096)) }
+    ensures seed { result.seed ≡ seed }
+    ensures others { (result.spill_pages ≡ 2000) × (result.checkpoint_frames ≡ 1000) }
+{
+    let options = Options::new(seed);
+    let pages = (len / PAGE_LEN).min(MAX_CACHE_PAGES) as usize;
+    Options {
+        cache_pages: options.cache_pages.max(pages),
+        ..options
+    }
+}
