@@ -34,7 +34,6 @@ use Rattle.s10_jobs.specs.declared.report_kind.ReportKind.{ReportKind}
 use Rattle.s10_jobs.specs.declared.report_kind.ReportKind.TheVariants.{Issues as OfIssues}
 use Rattle.s10_jobs.specs.Reporting.{IsOfIssues, report_on}
 use Rattle.s10_reports.specs.declared.issues_report.IssuesReport.{IssuesReport}
-use Rattle.s10_host.specs.declared.loop_resources.LoopResources.{LoopResources}
 use Rattle.s10_jobs.specs.Unbound.{IsUnbound}
 use Rattle.s10_host.specs.Files.{FileConnection, FileLedger, ClosedFiles, Copies, ClosesInto}
 use Rattle.s10_host.specs.Files.{IsFoundIn, IsFileFault, IsAbsenceOr, IsNotMade, IsNotOpened}

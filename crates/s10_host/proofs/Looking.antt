@@ -1,6 +1,6 @@
 -- How a look at a snapshot ends.
-use Rattle.std.proofs.Common.{◌≡◌, ◌⊎◌, ap₂, inl, inr, refl, sym, subst, ℕ, List, IsTrue}
-use Rattle.std.proofs.Common.{Option, Some, None, Result, Ok, Err}
+use Rattle.std.proofs.Common.{◌≡◌, ap₂, inl, inr, refl, sym, subst, ℕ, List, IsTrue}
+use Rattle.std.proofs.Common.{Option, Some, None, Result, Ok}
 use Rattle.std.specs.Prelude.{IfOk, IfSome}
 use Rattle.std.specs.Io.KnownBytes.{Appends}
 use Rattle.sqlite_disk.specs.declared.Files.{Files}
@@ -17,9 +17,8 @@ use Rattle.s10_statements.specs.ConnectionState.{IsClean}
 use Rattle.s10_jobs.specs.declared.job_status.JobStatus.{JobStatus}
 use Rattle.s10_jobs.specs.declared.reporting.Report.{Report}
 use Rattle.s10_snapshot.specs.declared.ledger_bytes.LedgerBytes.{LedgerBytes}
-use Rattle.s10_snapshot.specs.declared.snapshot_fault.SnapshotFault.{SnapshotFault}
 use Rattle.s10_host.specs.declared.snapshot_job.SnapshotJob.{SnapshotJob}
-use Rattle.s10_host.specs.declared.snapshot_job.SnapshotJob.TheVariants.{Report as ReportOf, Audit}
+use Rattle.s10_host.specs.declared.snapshot_job.SnapshotJob.TheVariants.{Report as ReportOf}
 use Rattle.s10_host.specs.Audited.{HasFound, audit_line, audit_status}
 use Rattle.s10_host.specs.Files.{IsFileFault}
 use Rattle.s10_host.specs.Jobs.{FailsByLedger}

@@ -1,5 +1,5 @@
 -- Defines what a copy of a ledger did, and what it printed.
-use Rattle.std.specs.Prelude.{◌≡◌, ◌⊎◌, ℕ, List, [], ◌∷◌, codes, decimal, Option, Some, None, Result}
+use Rattle.std.specs.Prelude.{◌≡◌, ℕ, List, [], ◌∷◌, codes, decimal, Option, Some, None, Result}
 use Rattle.std.specs.Prelude.{Ok, Err, OnOk, IfOk}
 use Rattle.std.specs.Io.KnownBytes.{Appends}
 use Rattle.sqlite.specs.Files.{over_files, file_state}

@@ -1,6 +1,6 @@
 -- Defines what each job has done when it ends, and what it has printed.
 use denote.RattleType.{RattleType}
-use Rattle.std.specs.Prelude.{◌≡◌, ◌≢◌, ◌⊎◌, ℕ, Bool, true, is_some, List, [], ◌∷◌, ◌++◌, codes}
+use Rattle.std.specs.Prelude.{◌≡◌, ◌⊎◌, ℕ, Bool, true, List, [], ◌∷◌, ◌++◌, codes}
 use Rattle.std.specs.Prelude.{Option}
 use Rattle.std.specs.Prelude.{Some, None, Result, Ok, Err, IsOk, IfOk, IfSome}
 use Rattle.std.specs.Io.KnownBytes.{Appends}
@@ -28,8 +28,6 @@ use Rattle.s10_jobs.specs.declared.question.Question.{Question}
 use Rattle.s10_jobs.specs.Questions.{IsPeerText}
 use Rattle.s10_jobs.specs.Lines.{refused_line}
 use Rattle.s10_jobs.specs.Words.{open_fault_words}
-use Rattle.s10_jobs.specs.declared.job.Job.{Job}
-use Rattle.s10_jobs.specs.declared.job.Job.TheVariants as job
 use Rattle.s10_jobs.specs.declared.reporting.Report.{Report}
 use Rattle.s10_jobs.specs.declared.reporting.Report.TheVariants.{Issues}
 use Rattle.s10_jobs.specs.declared.report_kind.ReportKind.{ReportKind}

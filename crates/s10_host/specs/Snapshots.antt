@@ -9,7 +9,7 @@ use Rattle.sqlite_wal.specs.Recovery.{Image}
 use Rattle.sqlite_trees.specs.declared.store.Store.{Ghosts}
 use Rattle.sqlite_store.specs.declared.store.FileStore.{FileStore}
 use Rattle.sqlite.specs.Files.{over_files, file_state, IsOpened}
-use Rattle.sqlite.specs.Held.{Held, state}
+use Rattle.sqlite.specs.Held.{Held}
 use Rattle.sqlite.specs.Start.{FindsIn}
 use Rattle.s10_lines.specs.Lines.{line_of}
 use Rattle.s10_lines.specs.declared.write_fault.WriteFault.{WriteFault}

@@ -1,4 +1,4 @@
-use Rattle.std.proofs.Common.{◌≡◌, ap, inl, inr, refl, subst, sym, Ok, Err, Some, None}
+use Rattle.std.proofs.Common.{◌≡◌, ap, inl, inr, refl, subst, sym, Ok, Err}
 use Rattle.s10_snapshot.specs.Readings.{IsTaken}
 use Rattle.s10_host.specs.JobResources.{snapshot_in}
 use Rattle.s10_host.specs.Snapshots.{HasLooked}

@@ -1,4 +1,3 @@
-use Rattle.std.proofs.Common.{refl}
 use Rattle.s10_host.proofs.Ending.{asked_for, no_report}
 use Rattle.s10_host.proofs.snapshot_job.job_of.Goals as goal
 
