@@ -52,6 +52,7 @@ def fill(ledger, calls):
     """Writes that many calls, with all their rows, into a new ledger."""
     subprocess.run([PROGRAM, "create", "--ledger", ledger, "--interval", "30", "--limit", "100000000"], check=True, stdout=subprocess.DEVNULL)
     with sqlite3.connect(ledger) as database:
+        database.execute("PRAGMA synchronous = OFF")
         database.execute("INSERT INTO calls VALUES (?, ?, ?, ?, ?)", grant_row())
         database.executemany("INSERT INTO calls VALUES (?, ?, ?, ?, ?)", (draw_row(number) for number in range(1, calls)))
         database.execute("INSERT INTO ranges VALUES (1, 7, ?, 0, ?, ?)", (PAIR, SERIALS - 1, calls - 1))
