@@ -59,32 +59,37 @@ echo "one Draw that finds 10,000 used ranges of its customer first: $(each 1 "$d
 grants 1000 1 7 0 10 >"$dir/granted"
 echo "a Grant, of a thousand: $(each 1000 "$dir/nothing" "$dir/granted")"
 
-# Prints the instructions of a server with these options that gets a Grant and the given number of Draws, one after another.
-served() { # DRAWS OPTION..
+# Prints the instructions of a server with these options that gets a Grant and the given number of Draws, so many at a time.
+served() { # DRAWS AT_ONCE OPTION..
     local ledger=$dir/ledger
     rm -f "$ledger"* "$dir/told"
     "$s10" create --ledger "$ledger" --interval 30 --limit 1000000 >"$dir/created"
     mkfifo "$dir/told"
     valgrind --tool=callgrind --callgrind-out-file=/dev/null "$s10" serve --ledger "$ledger" --bind 127.0.0.1:0 \
-        --count $(($1 + 1)) "${@:2}" 2>"$dir/told" >/dev/null &
+        --count $(($1 + 1)) "${@:3}" 2>"$dir/told" >/dev/null &
     { grants 1 1 7 0 100000; draws "$1" 1; } | python3 -c '
 import re, socket, sys
 told = open(sys.argv[1])
 address = next(it for it in told if it.startswith("serving on ")).split()[-1].rsplit(":", 1)
 link = socket.socket(socket.AF_INET, socket.SOCK_DGRAM)
 link.connect((address[0], int(address[1])))
-for line in sys.stdin:
-    link.send(bytes.fromhex(line.split()[1]))
-    link.recv(2048)
+requests = [bytes.fromhex(line.split()[1]) for line in sys.stdin]
+at_once = int(sys.argv[2])
+for first in range(0, len(requests), at_once):
+    for request in requests[first : first + at_once]:
+        link.send(request)
+    for request in requests[first : first + at_once]:
+        link.recv(2048)
 print(re.search(r"Collected : (\d+)", told.read()).group(1))
-' "$dir/told"
+' "$dir/told" "$2"
 }
 
-# Prints the instructions of a Draw of a server with these options.
-each_served() { # OPTION..
-    echo $((($(served 1100 "$@") - $(served 100 "$@")) / 1000))
+# Prints the instructions of a Draw of a server with these options, of so many that come at a time.
+each_served() { # AT_ONCE OPTION..
+    echo $((($(served 1280 "$@") - $(served 128 "$@")) / 1152))
 }
 
-echo "a Draw of a server over one range: $(each_served --day 20000)"
-echo "the same with the days of the clock: $(each_served)"
-echo "the same with --until and --most-days-ahead too: $(each_served --until "$dir/stop" --most-days-ahead 30)"
+echo "a Draw of a server over one range: $(each_served 1 --day 20000)"
+echo "the same with the days of the clock: $(each_served 1)"
+echo "the same with --until and --most-days-ahead too: $(each_served 1 --until "$dir/stop" --most-days-ahead 30)"
+echo "a Draw of a server, of 32 that come at once: $(each_served 32 --day 20000)"
