@@ -110,7 +110,7 @@ fn served_over<D: Disk + Drop>(
 }
 
 /// Returns the number of calls of the ledger in a connection, or `None` if it has no ledger.
-fn calls_in<S: Alter + Drop>(alloc: Global, conn: Connection<S>) -> Option<u32> {
+pub(crate) fn calls_in<S: Alter + Drop>(alloc: Global, conn: Connection<S>) -> Option<u32> {
     if !conn.is_autocommit() {
         return None;
     }
@@ -130,7 +130,7 @@ fn calls_in<S: Alter + Drop>(alloc: Global, conn: Connection<S>) -> Option<u32> 
 }
 
 /// Returns a file with these bytes that does not stop.
-fn file_of(alloc: Global, bytes: &[u8]) -> Option<Memory> {
+pub(crate) fn file_of(alloc: Global, bytes: &[u8]) -> Option<Memory> {
     let mut file = Memory::new(alloc);
     file.write_at(0, bytes).ok()?;
     Some(file)
