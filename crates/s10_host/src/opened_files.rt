@@ -1,6 +1,9 @@
 //! The files at a path, opened as a database with a cache that holds the whole file if it can.
 
-ghost use Rattle.std.specs.Prelude.{codes, ◌≡◌, ◌/◌, true, false, min, max, IsTrue, IfOk};
+ghost use Rattle.std.specs.Prelude.{codes, ◌≡◌, ◌≢◌, ◌/◌, true, false, min, max, nat_eq, IsTrue};
+ghost use Rattle.std.specs.Prelude.{IfOk};
+ghost use Rattle.std.specs.List.{starts_with};
+ghost use Rattle.std.specs.IoError.{error_kind};
 ghost use Rattle.sqlite_wal.specs.Files.{image_at};
 ghost use Rattle.sqlite_std_file.specs.File.{file_is_usable, IsFresh};
 ghost use Rattle.s10_host.specs.Files.{IsFoundIn, IsPlain};
@@ -65,6 +68,8 @@ pub(crate) fn open_with_cache<S: Start>(
 fn open_pair<S: Start>(rt: &HostRuntime, path: &str, start: S) -> Result<ClosedFiles<S>, Error>
     ensures memory { path.now ≡ codes ":memory:"
         → result ≡ Err (Error.SqliteFailure ErrorCode.CannotOpen) }
+    ensures uri { IsTrue (starts_with nat_eq path.now (codes "file:"))
+        → result ≡ Err (Error.SqliteFailure ErrorCode.CannotOpen) }
     ensures usable { IfOk result (λ files. IsTrue (file_is_usable S.Start files.log)
         × IsTrue (file_is_usable S.Start files.db)) }
     ensures fresh { IfOk result (λ files. IsFresh true files.log × IsFresh false files.db) }
@@ -86,6 +91,12 @@ fn error_of(fault: OpenError) -> Error
         → result ≡ Error.SqliteFailure ErrorCode.OutOfMemory }
     ensures journal { fault ≡ OpenError.HotJournal
         → result ≡ Error.SqliteFailure ErrorCode.CannotOpen }
+    ensures system { (cause : _) → fault ≡ OpenError.Io cause
+        → error_kind cause ≢ ErrorKind.OutOfMemory
+        → result ≡ Error.SqliteFailure ErrorCode.CannotOpen }
+    ensures system_memory { (cause : _) → fault ≡ OpenError.Io cause
+        → error_kind cause ≡ ErrorKind.OutOfMemory
+        → result ≡ Error.SqliteFailure ErrorCode.OutOfMemory }
 {
     match fault {
         OpenError::Busy => Error::SqliteFailure(ErrorCode::DatabaseBusy),
