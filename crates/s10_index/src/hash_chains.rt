@@ -1,7 +1,7 @@
 //! Which elements of a list have a given hash.
 
 ghost use Rattle.std.specs.Prelude.{◌≡◌, ℕ, ◌+◌, ◌%◌, ◌<◌, ◌≤◌, ◌==◌, ◌++◌, ◌∷◌, [], OnOk, length};
-ghost use Rattle.std.specs.Prelude.{slice_index};
+ghost use Rattle.std.specs.Prelude.{◌*◌, min, max, slice_index};
 ghost use Rattle.s10_index.specs.LastPlace.{last_place};
 ghost use Rattle.s10_index.specs.HashChains.{AreEarlier, AreHeads, in_bucket, link_to};
 
@@ -135,6 +135,8 @@ fn more_buckets(buckets: usize, needed: usize) -> usize
     requires { needed ≤ 4294967295 }
     ensures enough { needed ≤ result }
     ensures limit { result ≤ 4294967295 }
+    ensures doubled { min (2 * buckets) 4294967295 ≤ result }
+    ensures least { result ≤ max needed (2 * buckets) }
 {
     buckets.saturating_mul(2).min(MAX_ELEMENTS).max(needed)
 }
