@@ -7,10 +7,11 @@ pub mod IssueLogs
 pub mod Sheets
 pub mod LastDay
 pub mod Recording
-pub mod RowsSoFar
 pub mod IssueLemmas
 pub mod Voiding
 pub mod WrittenLemmas
 pub mod Rested
 pub mod Identifiers
 pub mod SerialLookups
+pub mod RangeLookups
+pub mod ClosedLookups

@@ -23,10 +23,10 @@ use Rattle.s10_index.specs.RowId.{NamesId}
 use Rattle.s10_index.specs.IssueLog.{HaveIds}
 use Rattle.s10_index.specs.RowsFrom.{serial_row_of}
 
-at_index : {A : Type 0} (xs : List A) (x : A) → Contains xs x → (k : ℕ) × (slice_get xs k ≡ Some x)
+pub at_index : {A : Type 0} (xs : List A) (x : A) → Contains xs x → (k : ℕ) × (slice_get xs k ≡ Some x)
 at_index xs x (k, lt, is) = (k, slice_get-get_or xs k x lt ∙ ap Some is)
 
-from_index : {A : Type 0} (xs : List A) (x : A) (k : ℕ) → slice_get xs k ≡ Some x → Contains xs x
+pub from_index : {A : Type 0} (xs : List A) (x : A) (k : ℕ) → slice_get xs k ≡ Some x → Contains xs x
 from_index xs x k at = (k, slice_get_within xs k x at, get_or_from_slice_get xs k x x at)
 
 image_of : {A B : Type 0} (f : A → B) (o : Option A) (y : B) → option_map f o ≡ Some y → (x : A)

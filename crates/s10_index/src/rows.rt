@@ -1,32 +1,55 @@
 //! The derived rows of a book's history.
 
-ghost use Rattle.std.specs.Prelude.{◌≡◌, ◌↔◌, ◌+◌, IfOk, IsTrue, Contains, length};
+ghost use Rattle.std.specs.Prelude.{◌≡◌, ◌↔◌, ◌+◌, ℕ, pos, Some, IfSome, IsTrue, Contains, length};
+ghost use Rattle.std.specs.Prelude.{slice_get};
 ghost use Rattle.s10_rows.specs.Tables.{closed_rows, range_rows, serial_rows};
-ghost use Rattle.s10_index.specs.RowsFrom.{serial_row_of};
+ghost use Rattle.s10_index.specs.RowsFrom.{serial_row_of, closed_row_of};
 
 use crate::indexed_book::IndexedBook;
 use crate::row_id::id_in;
 use s10_book::Book;
 use s10_core::Id;
 use s10_rows::{ClosedRow, RangeRow, SerialRow};
-use std::alloc::{AllocError, Global};
+
+// Returns the index of the element with that number, which counts from 1. None if there is none.
+fn place_of(number: i64) -> Option<usize>
+    ensures some { IfSome result (λ place. number ≡ pos (place + 1)) }
+    ensures kept { (place : ℕ) → number ≡ pos (place + 1) → result ≡ Some place }
+{
+    usize::try_from(number).ok()?.checked_sub(1)
+}
 
 impl IndexedBook {
-    /// Returns the rows of `ranges`, in order of their numbers.
-    ///
-    /// # Errors
-    ///
-    /// `AllocError` if the rows cannot be allocated.
-    pub fn range_rows(&self, alloc: Global) -> Result<Vec<RangeRow>, AllocError>
-        ensures { IfOk result (λ rows. rows.items ≡ range_rows self.now.index.entries.items) }
+    // Returns the row of the range at an index, counted from 0, or `None` if there is none.
+    fn range_row(&self, place: usize) -> Option<RangeRow>
+        ensures { result ≡ slice_get (range_rows self.now.index.entries.items) place }
     {
         let ranges = self.index.ranges().all();
         let marks = self.index.ranges().marks();
-        let mut rows = Vec::new(alloc);
-        for place in 0..ranges.len() {
-            rows.push(RangeRow::of(&ranges[place], marks[place].serial.value()))?;
+        if place >= ranges.len() {
+            return None;
         }
-        Ok(rows)
+        Some(RangeRow::of(&ranges[place], marks[place].serial.value()))
+    }
+
+    /// Returns whether the history has exactly this row of `ranges`.
+    pub fn has_range_row(&self, row: &RangeRow) -> bool
+        ensures { IsTrue result ↔ Contains (range_rows self.now.index.entries.items) row.now }
+    {
+        let Some(place) = place_of(row.num) else {
+            return false;
+        };
+        match self.range_row(place) {
+            None => false,
+            Some(range) => range == *row,
+        }
+    }
+
+    /// Returns the number of rows of `ranges` of the history.
+    pub fn range_count(&self) -> usize
+        ensures { result ≡ length (range_rows self.now.index.entries.items) }
+    {
+        self.index.ranges().all().len()
     }
 
     // Returns the row of the identifier, or `None` if it was never issued.
@@ -60,22 +83,42 @@ impl IndexedBook {
         self.index.issues.identifiers
     }
 
-    /// Returns the rows of `closed`, in order of the calls that closed them.
-    ///
-    /// # Errors
-    ///
-    /// `AllocError` if the rows cannot be allocated.
-    pub fn closed_rows(&self, alloc: Global) -> Result<Vec<ClosedRow>, AllocError>
-        ensures { IfOk result (λ rows. rows.items ≡ closed_rows self.now.index.entries.items) }
+    // Returns the row of `closed` that the call at an index, counted from 0, adds. None if it adds
+    // none, or if there is no such call.
+    fn closed_row(&self, place: usize) -> Option<ClosedRow>
+        ensures { result ≡ closed_row_of self.now.index.entries.items place }
     {
-        let len = self.len();
-        let mut rows = Vec::new(alloc);
+        if place >= self.len() as usize {
+            return None;
+        }
+        let entry = self.index.entries.at(place);
+        ClosedRow::made_by(place as u32 + 1, &entry)
+    }
+
+    /// Returns whether the history has exactly this row of `closed`.
+    pub fn has_closed_row(&self, row: &ClosedRow) -> bool
+        ensures { IsTrue result ↔ Contains (closed_rows self.now.index.entries.items) row.now }
+    {
+        let Some(place) = place_of(row.arrival) else {
+            return false;
+        };
+        match self.closed_row(place) {
+            None => false,
+            Some(closed) => closed == *row,
+        }
+    }
+
+    /// Returns the number of rows of `closed` of the history.
+    pub fn closed_count(&self) -> usize
+        ensures { result ≡ length (closed_rows self.now.index.entries.items) }
+    {
+        let len = self.len() as usize;
+        let mut count = 0;
         for place in 0..len {
-            let entry = self.index.entries.at(place as usize);
-            if let Some(row) = ClosedRow::made_by(place + 1, &entry) {
-                rows.push(row)?;
+            if self.closed_row(place).is_some() {
+                count += 1;
             }
         }
-        Ok(rows)
+        count
     }
 }

@@ -15,4 +15,4 @@ pub mod FaultLemmas
 pub mod ReplayedBookLemmas
 pub mod ReplayFaults
 pub mod CallReplayLemmas
-pub mod SerialMatchLemmas
+pub mod RowMatchLemmas

@@ -6,5 +6,5 @@ pub mod Faults
 pub mod Refusals
 pub mod Replaying
 pub mod CallReplay
-pub mod SerialMatch
+pub mod RowMatch
 pub mod AllRows

@@ -1,8 +1,9 @@
 //! Opens the ledger of a connection.
 //!
 //! An opening reads the tables (`reading`). While it reads, it executes the calls again
-//! (`call_replay`) and compares the rows of `serials` with what results (`serial_match`). Then it
-//! compares the other tables (`comparing`), and completes those of an earlier build (`completing`).
+//! (`call_replay`) and compares the rows of the other tables with what results (`row_match`). It
+//! refuses the ledger if one of them is wrong (`verdicts`), and completes the tables of an earlier
+//! build (`completing`).
 
 ghost use Rattle.std.specs.Prelude.{◌≡◌, length, IfOk, IfErr, OnOk, OnErr, IsTrue};
 ghost use Rattle.s10_history.specs.History.{day_of};
@@ -18,15 +19,14 @@ ghost use Rattle.s10_ledger.specs.Ledger.{MayComplete};
 ghost use Rattle.s10_ledger.specs.Refusals.{IsOpeningRefusal, HasSomeTableLayout};
 
 mod call_replay;
-mod comparing;
 mod completing;
+mod derived_row;
 mod reading;
-mod serial_match;
-mod stored_rows;
+mod row_match;
 mod table_layout;
+mod verdicts;
 
 use crate::faults::opening_fault;
-use crate::opening::comparing::compare_rows;
 use crate::opening::completing::complete;
 use crate::opening::reading::read_tables;
 use crate::opening::table_layout::{TableLayout, table_layout_of};
@@ -61,7 +61,7 @@ fn replay_tables<S: Alter, W: Observer>(
         → IsTrue (state S.Store conn.new).is_open
         → IfErr result (IsOpeningRefusal (state S.Store conn.old).now) }
 {
-    let (book, rows) = match read_tables(alloc, seed, conn, form, observer) {
+    let (book, verdicts) = match read_tables(alloc, seed, conn, form, observer) {
         Ok(read) => read,
         Err(error) => {
             observer.statement_failed(&error);
@@ -69,7 +69,7 @@ fn replay_tables<S: Alter, W: Observer>(
         }
     };
     let book = book?;
-    compare_rows(alloc, &book, rows)?;
+    verdicts.check()?;
     Ok(book)
 }
 

@@ -1,23 +1,22 @@
 -- The derived rows, and whether stored rows are the same.
 use Rattle.std.proofs.Common.{◌≡◌, Bool, true, false, cond, List, [], ◌∷◌, map, get_or, ℤ, ◌<ℤ◌}
-use Rattle.std.proofs.Common.{refl, sym, subst, IsPermutation, IsSorted, Ordering, Less}
+use Rattle.std.proofs.Common.{refl, sym, subst, Ordering, Less}
 use Rattle.std.proofs.Common.{Equal, Greater, is_eq, is_gt, arith}
 use Rattle.std.specs.Prelude.{All, Contains, ◌&&◌, ◌↔◌, ◌≢◌, IsTrue, length}
 use Rattle.std.specs.List.{list_any, AllByRecursion}
 use Rattle.std.specs.Cmp.{IsTotalOrder}
 use Rattle.std.specs.Bool.{Decides}
 use Rattle.std.specs.Ordering.{int_cmp, int_eq, ordering_then, MatchOrdering}
-use Rattle.std.proofs.Math.Logic.{∥∥₁_elim, ∥∥₁_map, ∥∥₁_prop}
+use Rattle.std.proofs.Math.Logic.{∥∥₁_elim}
 use Rattle.std.proofs.Math.Bool.{So-prop}
 use Rattle.std.proofs.lemmas.Bool.{both_ways, or_parts, false_from_ne_true}
 use Rattle.std.proofs.lemmas.Bool.Decides.{Decides-and, Decides-like, Decides-int_eq}
 use Rattle.std.proofs.lemmas.Cmp.{int_ranked, on_total, then_total, int_cmp_total}
 use Rattle.std.proofs.lemmas.List.Elements.{All-head, All-tail, All-map, recursion_from_All}
 use Rattle.std.proofs.lemmas.List.Elements.{All-contains_itself}
-use Rattle.std.proofs.lemmas.List.Sorted.{IsPermutation-sym, IsPermutation-trans}
 use Rattle.std.proofs.lemmas.List.Sorted.{All-permutation, length_permutation}
 use Rattle.s10_replay.specs.Ascending.{IsAscending}
-use Rattle.s10_replay.proofs.Sorting.{sorted_unique, ordered_rises, rising_part, all_weaker}
+use Rattle.s10_replay.proofs.Sorting.{ordered_rises, rising_part, all_weaker}
 use Rattle.s10_core.specs.declared.id.Id.{Id}
 use Rattle.s10_history.specs.declared.entry.Entry.{Entry}
 use Rattle.s10_history.specs.declared.issuance.Issuance.{Issuance}
@@ -39,28 +38,12 @@ use Rattle.s10_replay.proofs.SerialRows.{issues_of_fit}
 use Rattle.std.proofs.lemmas.Option.{slice_get-get_or}
 use Rattle.std.proofs.lemmas.Grind.{common_steps}
 
--- Sorted rows are equal to rising ones exactly if both have the same rows.
-pub same_where_sorted : {X : Type 0} (cmp : X → X → Ordering) → IsTotalOrder cmp
-    → (made rows copied sorted : List X) (b : Bool)
-    → IsAscending (λ x y. cmp x y ≡ Less) made → copied ≡ rows → IsPermutation copied sorted
-    → IsSorted cmp sorted
-    → (IsTrue b ↔ (made ≡ sorted)) → (IsTrue b ↔ HaveSameRows made rows)
-same_where_sorted cmp total made rows copied sorted b up copy moved in_order same =
-    let perm : IsPermutation rows sorted = subst (λ l. IsPermutation l sorted) copy moved in (
-      λ t. ∣ subst (λ l. IsPermutation l rows) (sym (same.0 t)) (IsPermutation-sym rows sorted perm)
-          ∣₁,
-      λ h. ∥∥₁_elim h (So-prop b)
-          (λ p. same.1
-          (sym (sorted_unique cmp total made sorted up (IsPermutation-trans made rows sorted p perm)
-          in_order))),
-    )
-
 -- The order of rows of serials is total.
 pub serial_row_total : IsTotalOrder serial_row_cmp
 serial_row_total = then_total (on_total (λ (r : SerialRow). r.pair) int_cmp_total)
     (on_total (λ (r : SerialRow). r.serial) int_cmp_total)
 
-ascending_weaker : {X : Type 0} (R Q : X → X → Type 0) → ((x y : X) → R x y → Q x y)
+pub ascending_weaker : {X : Type 0} (R Q : X → X → Type 0) → ((x y : X) → R x y → Q x y)
     → (xs : List X) → IsAscending R xs → IsAscending Q xs
 ascending_weaker R Q f [] up = tt
 ascending_weaker R Q f (x ∷ xs) up = (
@@ -79,7 +62,7 @@ equal_parts Equal Greater h = absurd (both_ways false refl h)
 equal_parts Less b h = absurd (both_ways false refl h)
 equal_parts Greater b h = absurd (both_ways false refl h)
 
-tied : (x y : ℤ) → int_cmp x y ≡ Equal → x ≡ y
+pub tied : (x y : ℤ) → int_cmp x y ≡ Equal → x ≡ y
 tied x y e = let P : Ordering → Type 0 = λ o. MatchOrdering o (x <ℤ y) (x ≡ y) (y <ℤ x) in
     subst P e (int_ranked x y (int_cmp x y) refl)
 
@@ -143,28 +126,25 @@ no_ties f (i ∷ is) all =
       apart,
     )
 
-at_most : (a b : SerialRow) → serial_row_cmp a b ≢ Greater → is_gt (serial_row_cmp a b) ≡ false
-at_most a b = go (serial_row_cmp a b)
-  where
-    go : (o : Ordering) → o ≢ Greater → is_gt o ≡ false
-    go Less h = refl
-    go Equal h = refl
-    go Greater h = absurd (h refl)
+at_most : (o : Ordering) → o ≢ Greater → is_gt o ≡ false
+at_most Less h = refl
+at_most Equal h = refl
+at_most Greater h = absurd (h refl)
 
--- Sorted rows of serials are those of a list without two of one key exactly if they rise, if each
--- is one of the list, and if there are as many.
-pub same_where_matched : (made rows : List SerialRow) (b : Bool) → IsAscending HaveKeys made
-    → IsAscending (λ x y. serial_row_cmp x y ≢ Greater) rows
-    → (IsTrue b ↔ (IsAscending (λ x y. serial_row_cmp x y ≡ Less) rows × All (Contains made) rows
+-- Sorted rows are those of a list without two of one key exactly if they rise, if each is one of
+-- the list, and if there are as many.
+pub same_where_matched : {X : Type 0} (cmp : X → X → Ordering) → IsTotalOrder cmp
+    → (made rows : List X) (b : Bool) → IsAscending (λ x y. is_eq (cmp x y) ≡ false) made
+    → IsAscending (λ x y. cmp x y ≢ Greater) rows
+    → (IsTrue b ↔ (IsAscending (λ x y. cmp x y ≡ Less) rows × All (Contains made) rows
     × (length rows ≡ length made)))
     → (IsTrue b ↔ HaveSameRows made rows)
-same_where_matched made rows b apart sorted verdict = (
+same_where_matched cmp total made rows b apart sorted verdict = (
   λ t. let v = verdict.0 t in
-      ∣ rising_part serial_row_cmp serial_row_total made rows v.0
-      (recursion_from_All (Contains made) rows v.1) v.2 ∣₁,
+      ∣ rising_part cmp total made rows v.0 (recursion_from_All (Contains made) rows v.1) v.2 ∣₁,
   λ h. ∥∥₁_elim h (So-prop b) (λ p. verdict.1 (
-    ordered_rises serial_row_cmp serial_row_total made rows apart p
-        (ascending_weaker _ _ at_most rows sorted),
+    ordered_rises cmp total made rows apart p
+        (ascending_weaker _ _ (λ x y. at_most (cmp x y)) rows sorted),
     All-permutation (Contains made) made rows p (All-contains_itself made),
     length_permutation made rows p,
   )),

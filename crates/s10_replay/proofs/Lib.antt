@@ -11,6 +11,7 @@ pub mod Sums
 pub mod Usage
 pub mod Replayed
 pub mod Compared
+pub mod ClosedRows
 pub mod RowsAfterCall
 pub mod GrantRows
 pub mod CallIssues

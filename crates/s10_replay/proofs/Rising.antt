@@ -1,27 +1,20 @@
--- The rows of ranges and of calls rise by their keys, and those of closed by arrival.
-use Rattle.std.proofs.Common.{◌≡◌, ℕ, ◌+◌, ◌<◌, cond, ltb, pos, ℤ, List, [], ◌∷◌, ◌++◌, map, Option}
-use Rattle.std.proofs.Common.{Some, None, refl, sym, ap, ◌∙◌, subst, arith}
-use Rattle.std.specs.Prelude.{option_to_list}
+-- The rows of ranges and of calls rise by their keys.
+use Rattle.std.proofs.Common.{◌≡◌, ℕ, ◌+◌, ◌<◌, cond, ltb, false, pos, List, [], ◌∷◌, map, ap}
+use Rattle.std.proofs.Common.{is_eq, arith}
 use Rattle.std.specs.List.{AllByRecursion}
 use Rattle.std.specs.Ordering.{int_cmp}
 use Rattle.std.specs.declared.cmp.Ordering.TheVariants.{Less, Equal, Greater}
 use Rattle.std.proofs.lemmas.Bool.{lt-ltb}
-use Rattle.std.proofs.lemmas.Option.{none-some, same_Some}
-use Rattle.s10_wire.specs.declared.body.Body.{Body}
-use Rattle.s10_wire.specs.declared.body.Body.TheVariants.{Withdraw}
-use Rattle.s10_wire.specs.declared.outcome.Outcome.{Outcome}
-use Rattle.s10_wire.specs.declared.outcome.Outcome.TheVariants.{Withdrawn}
 use Rattle.s10_replay.specs.Ascending.{IsAscending}
+use Rattle.s10_replay.proofs.Compared.{ascending_weaker}
 use Rattle.s10_history.specs.declared.entry.Entry.{Entry}
 use Rattle.s10_history.specs.declared.range.Range.{Range}
 use Rattle.s10_history.specs.History.{ranges_of}
 use Rattle.s10_history.specs.Issues.{issues_of, pick_of}
 use Rattle.s10_history.proofs.Numbering.{Numbered, numbered}
 use Rattle.s10_rows.specs.declared.range_row.RangeRow.{RangeRow}
-use Rattle.s10_rows.specs.declared.closed_row.ClosedRow.{ClosedRow}
 use Rattle.s10_rows.specs.CallRow.{StoredCall}
-use Rattle.s10_rows.specs.Tables.{range_row, range_rows, call_rows_from, call_rows, closing}
-use Rattle.s10_rows.specs.Tables.{closed_rows_from, closed_rows}
+use Rattle.s10_rows.specs.Tables.{range_row, range_rows, call_rows_from, call_rows}
 
 less : (a b : ℕ) → a < b → int_cmp (pos a) (pos b) ≡ Less
 less a b lt = ap (λ t. cond t Less (cond (ltb b a) Greater Equal)) (lt-ltb a b lt)
@@ -64,52 +57,8 @@ pub call_rows_rise : (h : List Entry)
     → IsAscending (λ (a b : StoredCall). int_cmp a.arrival b.arrival ≡ Less) (call_rows h)
 call_rows_rise h = calls_rise 1 h
 
--- A call closes a range at its own arrival.
-closes_at : (arrival : ℕ) (e : Entry) (row : ClosedRow) → closing arrival e.request.body e.outcome
-    ≡ Some row → row.arrival ≡ pos arrival
-closes_at arrival e row made = closed_at e.request.body e.outcome made
-  where
-    closed_at : (b : Body) (o : Outcome) → closing arrival b o ≡ Some row
-        → row.arrival ≡ pos arrival
-    closed_at (Withdraw range) Withdrawn made' =
-        sym (ap (λ (r : ClosedRow). r.arrival) (same_Some _ row made'))
-    closed_at b o made' = absurd (none-some row made')
-
-closed_above : (m n : ℕ) (es : List Entry) → m < n
-    → AllByRecursion (λ (row : ClosedRow). int_cmp (pos m) row.arrival ≡ Less)
-    (closed_rows_from n es)
-closed_above m n [] lt = tt
-closed_above m n (e ∷ es) lt = at (closing n e.request.body e.outcome) (closes_at n e)
-    (closed_above m (n + 1) es (omega arith))
-  where
-    at : (o : Option ClosedRow) → ((row : ClosedRow) → o ≡ Some row → row.arrival ≡ pos n)
-        → AllByRecursion (λ (row : ClosedRow). int_cmp (pos m) row.arrival ≡ Less)
-        (closed_rows_from (n + 1) es)
-        → AllByRecursion (λ (row : ClosedRow). int_cmp (pos m) row.arrival ≡ Less)
-        (option_to_list o ++ closed_rows_from (n + 1) es)
-    at None here rest = rest
-    at (Some row) here rest = (ap (int_cmp (pos m)) (here row refl) ∙ less m n lt, rest)
-
-closed_rise : (n : ℕ) (es : List Entry)
-    → IsAscending (λ (a b : ClosedRow). int_cmp a.arrival b.arrival ≡ Less) (closed_rows_from n es)
-closed_rise n [] = tt
-closed_rise n (e ∷ es) = at (closing n e.request.body e.outcome) (closes_at n e)
-    (closed_above n (n + 1) es (omega arith)) (closed_rise (n + 1) es)
-  where
-    at : (o : Option ClosedRow) → ((row : ClosedRow) → o ≡ Some row → row.arrival ≡ pos n)
-        → AllByRecursion (λ (row : ClosedRow). int_cmp (pos n) row.arrival ≡ Less)
-        (closed_rows_from (n + 1) es)
-        → IsAscending (λ (a b : ClosedRow). int_cmp a.arrival b.arrival ≡ Less)
-        (closed_rows_from (n + 1) es)
-        → IsAscending (λ (a b : ClosedRow). int_cmp a.arrival b.arrival ≡ Less)
-        (option_to_list o ++ closed_rows_from (n + 1) es)
-    at None here above rest = rest
-    at (Some row) here above rest =
-        let P : ℤ → Type 0 = λ k. AllByRecursion (λ (other : ClosedRow). int_cmp k other.arrival
-        ≡ Less) (closed_rows_from (n + 1) es) in
-        (subst P (sym (here row refl)) above, rest)
-
--- The rows of closed rise by arrival.
-pub closed_rows_rise : (h : List Entry)
-    → IsAscending (λ (a b : ClosedRow). int_cmp a.arrival b.arrival ≡ Less) (closed_rows h)
-closed_rows_rise h = closed_rise 1 h
+-- No two rows of ranges have the same number.
+pub range_rows_apart : (h : List Entry)
+    → IsAscending (λ (a b : RangeRow). is_eq (int_cmp a.num b.num) ≡ false) (range_rows h)
+range_rows_apart h = ascending_weaker _ _ (λ a b less. ap is_eq less) (range_rows h)
+    (range_rows_rise h)

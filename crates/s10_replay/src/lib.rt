@@ -1,5 +1,5 @@
 //! Part of `s10_index`, split off for the prover alone. Reads the calls of a ledger from their rows
-//! and executes them again; computes the derived rows of a call, and compares rows.
+//! and executes them again, and computes the derived rows of a call.
 #![tactic(auto)]
 
 mod call_reading;
@@ -8,7 +8,6 @@ mod derived_writes;
 mod faults;
 mod head_reading;
 mod replaying;
-mod same_rows;
 mod serial_reading;
 mod usage_reading;
 
@@ -16,5 +15,4 @@ pub use derived_writes::{grant_write, issue_writes, issue_writes_are_complete, v
 pub use faults::fault_of_book;
 pub use head_reading::settings_in;
 pub use replaying::replay_row;
-pub use same_rows::{same_closed, same_ranges};
 pub use usage_reading::usage_among;

@@ -1,31 +1,26 @@
 -- What the reads of a ledger's tables show.
 use Rattle.std.proofs.Common.{◌≡◌, ℕ, ℤ, List, [], ◌∷◌, ◌&&◌, Bool, true, false, map, filter}
-use Rattle.std.proofs.Common.{refl, sym, ap, subst, ◌∙◌, int_cmp, int_eq, int_le, Less}
+use Rattle.std.proofs.Common.{refl, ap, subst, ◌∙◌, int_eq, int_le}
 use Rattle.std.specs.List.{list_all}
 use Rattle.std.specs.List.Sorted.{IsPermutation}
 use Rattle.sqlite_value.specs.declared.keys.Collation.TheVariants.{Binary}
 use Rattle.sqlite_value.specs.declared.value.Value.TheVariants.{Null, Int}
-use Rattle.sqlite_value.specs.Order.{Row, column, value_cmp}
-use Rattle.sqlite_value.proofs.OrderLemmas.{value_cmp-Int}
-use Rattle.sqlite_trees.specs.Tree.{IsAscending}
-use Rattle.sqlite_keyed.proofs.ListLemmas.{ascending_weaker}
+use Rattle.sqlite_value.specs.Order.{Row, column}
 use Rattle.sqlite_sql.specs.declared.ops.BinaryOp.TheVariants.{Compare}
 use Rattle.sqlite_sql.specs.declared.ops.CompareOp.TheVariants.{Eq, Ge, Le}
 use Rattle.sqlite_sql.specs.Ops.{binary, is_true}
 use Rattle.sqlite_sql.specs.Term.{Term, holds}
-use Rattle.sqlite_sql.specs.Query.{Query, IsAnswer, output, output_cmp}
+use Rattle.sqlite_sql.specs.Query.{Query, IsAnswer, output}
 use Rattle.sqlite_sql.specs.Program.{overlay}
 use Rattle.sqlite_typed.proofs.TestLemmas.{at_ints, then_term, last_term}
 use Rattle.sqlite_schema.specs.declared.schema.Schema.{Schema}
 use Rattle.sqlite.specs.State.{State, Shown}
 use Rattle.sqlite.proofs.Callers.{reads_as}
-use Rattle.s10_rows.specs.declared.range_row.RangeRow.{RangeRow}
 use Rattle.s10_rows.specs.declared.serial_row.SerialRow.{SerialRow}
-use Rattle.s10_rows.specs.declared.closed_row.ClosedRow.{ClosedRow}
 use Rattle.s10_schema.specs.Schema.{IsLedgerSchema, IsClosedSchema}
 use Rattle.s10_schema.specs.Schema.{others_in, others_after_closed}
 use Rattle.s10_schema.specs.Schema.{head_table, calls_table, ranges_table, serials_table, closed_table}
-use Rattle.s10_statements.specs.Shown.{shown_range, shown_serial, shown_closed}
+use Rattle.s10_statements.specs.Shown.{shown_serial}
 use Rattle.s10_statements.specs.Shown.{head_columns, call_columns, range_columns, serial_columns}
 use Rattle.s10_statements.specs.Shown.{closed_columns, serial_from}
 use Rattle.s10_rows.specs.Selected.{is_within}
@@ -33,9 +28,10 @@ use Rattle.s10_statements.specs.Statements.{select_head_sql, select_calls_sql, s
 use Rattle.s10_statements.specs.Statements.{select_serials_within_sql, select_serials_sql}
 use Rattle.s10_statements.specs.Statements.{select_closed_sql}
 use Rattle.s10_statements.proofs.Texts.{read_of, IsQuery, by_one, by_pair, head_read, calls_query}
-use Rattle.s10_statements.proofs.Texts.{calls_read, ranges_read, within_tests, within_read}
-use Rattle.s10_statements.proofs.Texts.{wide_terms, serials_query, serials_read, closed_read, terms_in}
-use Rattle.s10_statements.proofs.ReadLemmas.{kept_are, rows_are, rows_rise, selected}
+use Rattle.s10_statements.proofs.Texts.{calls_read, ranges_query, ranges_read, within_tests}
+use Rattle.s10_statements.proofs.Texts.{within_read, wide_terms, serials_query, serials_read}
+use Rattle.s10_statements.proofs.Texts.{closed_query, closed_read, terms_in}
+use Rattle.s10_statements.proofs.ReadLemmas.{kept_are, rows_are, selected}
 
 abbrev pub wide_columns : Row → Row
 wide_columns r = column r 1 ∷ column r 2 ∷ column r 3 ∷ column r 4 ∷ column r 5 ∷ column r 6
@@ -92,25 +88,6 @@ module _ {schema : Schema} {sql : List ℕ} {names : List (List ℕ)} (tree : �
         (kept_are params query raw columns key test outs pass a.staged a.kept
         a.grouped a.distinct) a.same a.shown
 
-    -- Rows in the order of a rank, which the first column shows.
-    pub rises : {X : Type 0} (shown : X → Row) (rank : X → ℤ)
-        → ((a b : X) → int_cmp (rank a) (rank b) ≡ Less
-        → output_cmp query (key (shown a), shown a) (key (shown b), shown b) ≡ Less)
-        → (xs : List X) → IsAscending (λ a b. int_cmp (rank a) (rank b) ≡ Less) xs
-        → IsPermutation (map shown xs) (filter test (map columns raw))
-        → rows ≡ map shown xs
-    rises shown rank less xs up same =
-        let a = answers in
-        rows_rise params query raw columns key test outs pass shown xs
-        (ascending_weaker _ (λ a b. output_cmp query (key (shown a), shown a)
-        (key (shown b), shown b) ≡ Less) less xs up) same a.kept a.ordered rows
-        (kept_are params query raw columns key test outs pass a.staged a.kept
-        a.grouped a.distinct) a.same a.sorted a.shown
-
--- One number is less than another if its value is.
-value_less : (a b : ℤ) → int_cmp a b ≡ Less → value_cmp (Int a) (Int b) ≡ Less
-value_less a b less = value_cmp-Int a b ∙ less
-
 module _ (params : Row) (old new : State) (rows : List Row)
     (has : IsLedgerSchema old.now.schema) where
   abbrev o : Schema
@@ -134,6 +111,10 @@ module _ (params : Row) (old new : State) (rows : List Row)
       (shows_passing 1 [] (terms_in calls_table) by_one (calls_read o) params old new rows has.is h
       call_columns first_key
       always (λ r. refl) (λ r. refl))
+
+  pub ranges_answers : Shown select_ranges_sql params old new rows
+      → IsAnswer ranges_query (overlay old.now.trees []) params rows
+  ranges_answers h = answers 3 [] (terms_in ranges_table) by_one (ranges_read o) params old new rows has.is h
 
   pub ranges_shows : Shown select_ranges_sql params old new rows
       → IsPermutation (map range_columns (old.now.trees 3)) rows
@@ -160,21 +141,14 @@ module _ (params : Row) (old new : State) (rows : List Row)
       wide_columns pair_key
       always (λ r. refl) (λ r. refl))
 
-  -- Rows of ranges in order of their numbers.
-  pub ranges_rise : (xs : List RangeRow) → IsAscending (λ a b. int_cmp a.num b.num ≡ Less) xs
-      → IsPermutation (map shown_range xs) (map range_columns (old.now.trees 3))
-      → Shown select_ranges_sql params old new rows → rows ≡ map shown_range xs
-  ranges_rise xs up same h = rises 3 [] (terms_in ranges_table) by_one (ranges_read o) params old new rows
-      has.is h
-      range_columns first_key always (λ r. refl) (λ r. refl) shown_range (λ x. x.num)
-      (λ a b less. rw (value_less a.num b.num less)) xs up
-      (subst (IsPermutation (map shown_range xs)) (sym (all_pass (map range_columns (old.now.trees
-      3)))) same)
-
 module _ (params : Row) (old new : State) (rows : List Row)
     (has : IsClosedSchema old.now.schema) where
   abbrev after : Schema
   after = others_after_closed old.now.schema
+
+  pub closed_answers : Shown select_closed_sql params old new rows
+      → IsAnswer closed_query (overlay old.now.trees []) params rows
+  closed_answers h = answers 6 [] (terms_in closed_table) by_one (closed_read after) params old new rows has.is h
 
   pub closed_shows : Shown select_closed_sql params old new rows
       → IsPermutation (map closed_columns (old.now.trees 6)) rows
@@ -183,17 +157,6 @@ module _ (params : Row) (old new : State) (rows : List Row)
       (shows_passing 6 [] (terms_in closed_table) by_one (closed_read after) params old new rows has.is h
       closed_columns first_key
       always (λ r. refl) (λ r. refl))
-
-  -- Rows of closed in order of the numbers of their ranges.
-  pub closed_rise : (xs : List ClosedRow) → IsAscending (λ a b. int_cmp a.num b.num ≡ Less) xs
-      → IsPermutation (map shown_closed xs) (map closed_columns (old.now.trees 6))
-      → Shown select_closed_sql params old new rows → rows ≡ map shown_closed xs
-  closed_rise xs up same h = rises 6 [] (terms_in closed_table) by_one (closed_read after) params old new rows
-      has.is h
-      closed_columns first_key always (λ r. refl) (λ r. refl) shown_closed (λ x. x.num)
-      (λ a b less. rw (value_less a.num b.num less)) xs up
-      (subst (IsPermutation (map shown_closed xs)) (sym (all_pass (map closed_columns
-      (old.now.trees 6)))) same)
 
 -- Typed rows.
 

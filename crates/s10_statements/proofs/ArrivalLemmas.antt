@@ -1,5 +1,7 @@
--- All rows of calls come in order of arrival, and those of serials in order of pair and serial.
-use Rattle.std.proofs.Common.{◌≡◌, ◌≢◌, suc, true, false, List, [], ◌∷◌, map, filter, refl, sym, ap}
+-- All rows of calls come in order of arrival, those of ranges and closed in order of number, and
+-- those of serials in order of pair and serial.
+use Rattle.std.proofs.Common.{◌≡◌, ◌≢◌, ℤ, suc, true, false, List, [], ◌∷◌, map, filter, refl, sym}
+use Rattle.std.proofs.Common.{ap, IsPermutation}
 use Rattle.std.proofs.Common.{subst, ◌∙◌, arith, int_cmp, Ordering, Less, Equal, Greater, is_lt}
 use Rattle.std.proofs.Common.{is_gt, true≢false, IsSorted}
 use Rattle.std.specs.List.{AllByRecursion, AllZip}
@@ -12,20 +14,25 @@ use Rattle.sqlite_value.proofs.OrderLemmas.{value_cmp-Int}
 use Rattle.sqlite_trees.specs.Tree.{IsAscending}
 use Rattle.sqlite_keyed.proofs.ListLemmas.{all_weaker, map-map, ascending_from_map}
 use Rattle.sqlite_keyed.proofs.ListLemmas.{ascending_weaker, all-map}
-use Rattle.sqlite_sql.specs.Query.{Output, output_cmp}
+use Rattle.sqlite_sql.specs.Query.{Query, Output, output_cmp}
 use Rattle.sqlite_sql.proofs.QueryLemmas.{output_cmp_total}
 use Rattle.sqlite.specs.State.{State, Shown}
 use Rattle.s10_rows.specs.CallRow.{StoredCall}
+use Rattle.s10_rows.specs.declared.closed_row.ClosedRow.{ClosedRow}
+use Rattle.s10_rows.specs.declared.range_row.RangeRow.{RangeRow}
 use Rattle.s10_rows.specs.declared.serial_row.SerialRow.{SerialRow}
 use Rattle.s10_rows.specs.Tables.{serial_row_cmp}
-use Rattle.s10_schema.specs.Schema.{IsLedgerSchema}
-use Rattle.s10_statements.specs.Shown.{shown_call, call_columns, ShowsSerial}
-use Rattle.s10_statements.specs.Statements.{select_calls_sql, select_serials_sql}
-use Rattle.s10_statements.proofs.Texts.{calls_query, serials_query}
+use Rattle.s10_schema.specs.Schema.{IsLedgerSchema, IsClosedSchema}
+use Rattle.s10_statements.specs.Shown.{shown_call, shown_range, shown_closed, ShowsSerial}
+use Rattle.s10_statements.specs.Shown.{call_columns, range_columns, closed_columns}
+use Rattle.s10_statements.specs.Statements.{select_calls_sql, select_ranges_sql}
+use Rattle.s10_statements.specs.Statements.{select_serials_sql, select_closed_sql}
+use Rattle.s10_statements.proofs.Texts.{calls_query, ranges_query, serials_query, closed_query}
 use Rattle.s10_statements.proofs.ReadLemmas.{kept_are}
 use Rattle.s10_statements.proofs.GoneLemmas.{all_moved}
 use Rattle.s10_statements.proofs.AnswerLemmas.{first_key, pair_key, wide_columns, always}
-use Rattle.s10_statements.proofs.AnswerLemmas.{calls_answers, serials_answers}
+use Rattle.s10_statements.proofs.AnswerLemmas.{calls_answers, ranges_answers, serials_answers}
+use Rattle.s10_statements.proofs.AnswerLemmas.{closed_answers}
 
 module _ {X : Type 0} (cmp : X → X → Ordering) (total : IsTotalOrder cmp) where
   abbrev pub AtMost : X → X → Type 0
@@ -64,16 +71,57 @@ module _ (key : Row → Row) where
   keyed [] each = refl
   keyed (o ∷ os) each = ap (λ x. x ∷ os) each.0 ∙ ap (λ l. out o.1 ∷ l) (keyed os each.1)
 
-abbrev NotAbove : StoredCall → StoredCall → Type 0
-NotAbove a b = int_cmp a.arrival b.arrival ≢ Greater
+-- Typed rows that a query shows in the order of their first column rise.
+module _ {X : Type 0} (query : Query) (shown : X → Row) (NotAbove : X → X → Type 0)
+    (not_above : (a b : X)
+    → is_gt (output_cmp query (out first_key (shown a)) (out first_key (shown b))) ≡ false
+    → NotAbove a b) where
+  sorted_rise : (columns rows : List Row) (kept ordered : List Output) (found : List X)
+      → kept ≡ map (out first_key) columns → IsPermutation kept ordered
+      → IsSorted (output_cmp query) ordered → rows ≡ map (λ (o : Output). o.1) ordered
+      → map shown found ≡ rows → IsAscending NotAbove found
+  sorted_rise columns rows kept ordered found are same sorted given typed =
+      let each : AllByRecursion (λ (o : Output). o ≡ out first_key o.1) ordered =
+      all_moved (λ (o : Output). o ≡ out first_key o.1) kept ordered same
+      (subst (AllByRecursion (λ (o : Output). o ≡ out first_key o.1)) (sym are)
+      (all-map (λ (o : Output). o ≡ out first_key o.1) (out first_key) (λ v. refl) columns)) in
+      let in_order : ordered ≡ map (λ x. out first_key (shown x)) found =
+      keyed first_key ordered each ∙ ap (map (out first_key)) (sym (typed ∙ given))
+      ∙ map-map (out first_key) shown found in
+      ascending_weaker _ NotAbove not_above found
+      (ascending_from_map (AtMost (output_cmp query) (output_cmp_total query))
+      (λ x. out first_key (shown x)) found
+      (ascending_from_sorted (output_cmp query) (output_cmp_total query)
+      (map (λ x. out first_key (shown x)) found)
+      (subst (IsSorted (output_cmp query)) in_order sorted)))
 
-not_above : (a b : StoredCall)
-    → is_gt (output_cmp calls_query (out first_key (shown_call a)) (out first_key (shown_call b))) ≡ false
-    → NotAbove a b
-not_above a b h above =
-    let e : value_cmp (Int a.arrival) (Int b.arrival) ≡ Greater = value_cmp-Int a.arrival b.arrival
-    ∙ above in
-    true≢false (rw e at h)
+-- One number is above another if its value is.
+value_above : (a b : ℤ) → int_cmp a b ≡ Greater → value_cmp (Int a) (Int b) ≡ Greater
+value_above a b above = value_cmp-Int a b ∙ above
+
+abbrev CallNotAbove : StoredCall → StoredCall → Type 0
+CallNotAbove a b = int_cmp a.arrival b.arrival ≢ Greater
+
+call_not_above : (a b : StoredCall)
+    → is_gt (output_cmp calls_query (out first_key (shown_call a)) (out first_key (shown_call b)))
+    ≡ false → CallNotAbove a b
+call_not_above a b h above = true≢false (rw (value_above a.arrival b.arrival above) at h)
+
+abbrev RangeNotAbove : RangeRow → RangeRow → Type 0
+RangeNotAbove a b = int_cmp a.num b.num ≢ Greater
+
+range_not_above : (a b : RangeRow)
+    → is_gt (output_cmp ranges_query (out first_key (shown_range a))
+    (out first_key (shown_range b))) ≡ false → RangeNotAbove a b
+range_not_above a b h above = true≢false (rw (value_above a.num b.num above) at h)
+
+abbrev ClosedNotAbove : ClosedRow → ClosedRow → Type 0
+ClosedNotAbove a b = int_cmp a.num b.num ≢ Greater
+
+closed_not_above : (a b : ClosedRow)
+    → is_gt (output_cmp closed_query (out first_key (shown_closed a))
+    (out first_key (shown_closed b))) ≡ false → ClosedNotAbove a b
+closed_not_above a b h above = true≢false (rw (value_above a.num b.num above) at h)
 
 -- Typed rows rise as the rows that show them.
 module _ {A B : Type 0} (R : A → B → Type 0) (Q : A → A → Type 0) (P : B → B → Type 0)
@@ -136,26 +184,22 @@ serial_not_above x y v w first second h above =
 module _ (params : Row) (old new : State) (rows : List Row)
     (has : IsLedgerSchema old.now.schema) where
   pub calls_sorted : (found : List StoredCall) → Shown select_calls_sql params old new rows
-      → map shown_call found ≡ rows → IsAscending NotAbove found
+      → map shown_call found ≡ rows → IsAscending CallNotAbove found
   calls_sorted found h typed =
       let a = calls_answers params old new rows has h in
-      let columns : List Row = filter always (map call_columns (old.now.trees 1)) in
-      let kept : a.kept ≡ map (out first_key) columns =
-      kept_are params calls_query (old.now.trees 1) call_columns first_key always (λ r. refl)
-      (λ r. refl) a.staged a.kept a.grouped a.distinct in
-      let each : AllByRecursion (λ (o : Output). o ≡ out first_key o.1) a.ordered =
-      all_moved (λ (o : Output). o ≡ out first_key o.1) a.kept a.ordered a.same
-      (subst (AllByRecursion (λ (o : Output). o ≡ out first_key o.1)) (sym kept)
-      (all-map (λ (o : Output). o ≡ out first_key o.1) (out first_key) (λ v. refl) columns)) in
-      let in_order : a.ordered ≡ map (λ x. out first_key (shown_call x)) found =
-      keyed first_key a.ordered each ∙ ap (map (out first_key)) (sym (typed ∙ a.shown)) ∙ map-map (out first_key) shown_call found in
-      let sorted : IsSorted (output_cmp calls_query) (map (λ x. out first_key (shown_call x)) found) =
-      subst (IsSorted (output_cmp calls_query)) in_order a.sorted in
-      ascending_weaker _ NotAbove not_above found
-      (ascending_from_map (AtMost (output_cmp calls_query) (output_cmp_total calls_query))
-      (λ x. out first_key (shown_call x)) found
-      (ascending_from_sorted (output_cmp calls_query) (output_cmp_total calls_query)
-      (map (λ x. out first_key (shown_call x)) found) sorted))
+      sorted_rise calls_query shown_call CallNotAbove call_not_above
+      (filter always (map call_columns (old.now.trees 1))) rows a.kept a.ordered found
+      (kept_are params calls_query (old.now.trees 1) call_columns first_key always (λ r. refl)
+      (λ r. refl) a.staged a.kept a.grouped a.distinct) a.same a.sorted a.shown typed
+
+  pub ranges_sorted : (found : List RangeRow) → Shown select_ranges_sql params old new rows
+      → map shown_range found ≡ rows → IsAscending RangeNotAbove found
+  ranges_sorted found h typed =
+      let a = ranges_answers params old new rows has h in
+      sorted_rise ranges_query shown_range RangeNotAbove range_not_above
+      (filter always (map range_columns (old.now.trees 3))) rows a.kept a.ordered found
+      (kept_are params ranges_query (old.now.trees 3) range_columns first_key always (λ r. refl)
+      (λ r. refl) a.staged a.kept a.grouped a.distinct) a.same a.sorted a.shown typed
 
   pub serials_sorted : (found : List SerialRow) → Shown select_serials_sql params old new rows
       → AllZip ShowsSerial found rows → IsAscending SerialNotAbove found
@@ -178,3 +222,14 @@ module _ (params : Row) (old new : State) (rows : List Row)
       (out pair_key) rows
       (ascending_from_sorted (output_cmp serials_query) (output_cmp_total serials_query)
       (map (out pair_key) rows) sorted))
+
+module _ (params : Row) (old new : State) (rows : List Row)
+    (has : IsClosedSchema old.now.schema) where
+  pub closed_sorted : (found : List ClosedRow) → Shown select_closed_sql params old new rows
+      → map shown_closed found ≡ rows → IsAscending ClosedNotAbove found
+  closed_sorted found h typed =
+      let a = closed_answers params old new rows has h in
+      sorted_rise closed_query shown_closed ClosedNotAbove closed_not_above
+      (filter always (map closed_columns (old.now.trees 6))) rows a.kept a.ordered found
+      (kept_are params closed_query (old.now.trees 6) closed_columns first_key always (λ r. refl)
+      (λ r. refl) a.staged a.kept a.grouped a.distinct) a.same a.sorted a.shown typed

@@ -13,19 +13,19 @@ use Rattle.s10_statements.specs.Statements.{LeavesTablesWhere, select_closed_sql
 use Rattle.s10_statements.proofs.Texts.{known_closed}
 use Rattle.s10_statements.proofs.StateLemmas.{leaves_weaker}
 
-only_reads : (sql : List ℕ) → sql ≡ select_closed_sql → (s : Schema) → IsClosedSchema s
+pub closed_plain : (sql : List ℕ) → sql ≡ select_closed_sql → (s : Schema) → IsClosedSchema s
     → IsPlain (understood s sql)
-only_reads sql is s has = subst (λ (text : List ℕ). IsPlain (understood s text)) (sym is)
+closed_plain sql is s has = subst (λ (text : List ℕ). IsPlain (understood s text)) (sym is)
     (known_closed s has)
 
 module _ {S : Type 0} (g : Ghosts S) (old new : Held S) (sql : List ℕ) where
   pub closed_leaves : LeavesTablesWhere (λ schema. IsPlain (understood schema sql)) g old new
       → sql ≡ select_closed_sql → LeavesTablesWhere IsClosedSchema g old new
-  closed_leaves leaves is = leaves_weaker g old new (only_reads sql is) leaves
+  closed_leaves leaves is = leaves_weaker g old new (closed_plain sql is) leaves
 
   pub closed_spares : AddsNoCrashStateWhere (λ schema. IsPlain (understood schema sql)) g old new
       → sql ≡ select_closed_sql → AddsNoCrashStateWhere IsClosedSchema g old new
-  closed_spares spares is clean has = spares clean (only_reads sql is _ has)
+  closed_spares spares is clean has = spares clean (closed_plain sql is _ has)
 
 pub closed_shown : (params : Row) (old new : State) (rows : List Row) (sql : List ℕ)
     → Shown sql params old new rows → sql ≡ select_closed_sql

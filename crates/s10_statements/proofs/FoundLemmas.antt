@@ -1,15 +1,12 @@
 -- What the reads find, as typed rows.
-use Rattle.std.proofs.Common.{◌≡◌, ℤ, List, map, filter, refl, sym, subst, ◌∙◌, int_cmp}
-use Rattle.std.proofs.Common.{Less, IsTrue}
-use Rattle.std.proofs.Math.Logic.{∥∥₁_elim, ∥∥₁_map}
+use Rattle.std.proofs.Common.{◌≡◌, ℤ, List, map, filter, sym, subst, IsTrue}
+use Rattle.std.proofs.Math.Logic.{∥∥₁_map}
 use Rattle.std.specs.List.Sorted.{IsPermutation}
 use Rattle.std.proofs.lemmas.List.Sorted.{IsPermutation-sym, IsPermutation-map}
 use Rattle.std.specs.List.{AllByRecursion}
 use Rattle.sqlite_trees.specs.View.{is_int}
 use Rattle.sqlite_keyed.proofs.ListLemmas.{map-map, all_unmap}
 use Rattle.sqlite_value.specs.Order.{Row, column}
-use Rattle.sqlite_trees.specs.Tree.{IsAscending}
-use Rattle.sqlite_trees.specs.Props.{rows_set}
 use Rattle.sqlite.specs.State.{State, Shown}
 use Rattle.s10_rows.specs.declared.head_row.HeadRow.{HeadRow}
 use Rattle.s10_rows.specs.declared.range_row.RangeRow.{RangeRow}
@@ -21,17 +18,16 @@ use Rattle.s10_rows.specs.Tables.{Tables, HaveSameRows}
 use Rattle.s10_statements.specs.Shown.{HasTables, shown_head, shown_call, shown_range, shown_serial}
 use Rattle.s10_statements.specs.Shown.{shown_closed, head_columns, call_columns, range_columns}
 use Rattle.s10_statements.specs.Shown.{serial_columns, closed_columns, serial_front}
-use Rattle.s10_statements.specs.Shown.{HasIntegerRowid, range_from, closed_from}
+use Rattle.s10_statements.specs.Shown.{HasIntegerRowid}
 use Rattle.s10_rows.specs.Selected.{is_within}
 use Rattle.s10_statements.specs.Statements.{select_head_sql, select_calls_sql, select_ranges_sql}
 use Rattle.s10_statements.specs.Statements.{select_serials_within_sql, select_serials_sql}
 use Rattle.s10_statements.specs.Statements.{select_closed_sql}
-use Rattle.s10_statements.proofs.ReadLemmas.{read_back}
 use Rattle.s10_statements.proofs.GoneLemmas.{all_moved}
 use Rattle.s10_statements.proofs.AnswerLemmas.{wide_columns, head_shows, calls_shows}
-use Rattle.s10_statements.proofs.AnswerLemmas.{ranges_shows, ranges_rise, within_shows}
+use Rattle.s10_statements.proofs.AnswerLemmas.{ranges_shows, within_shows}
 use Rattle.s10_statements.proofs.AnswerLemmas.{within_params, within_test, within_selects}
-use Rattle.s10_statements.proofs.AnswerLemmas.{serials_shows, closed_shows, closed_rise}
+use Rattle.s10_statements.proofs.AnswerLemmas.{serials_shows, closed_shows}
 
 whole : {X : Type 0} (shown : X → Row) (vs rows : List Row) (found : List X) → IsPermutation vs rows
     → map shown found ≡ rows → HaveSameRows (map shown found) vs
@@ -76,15 +72,6 @@ module _ (params : Row) (old new : State) (rows : List Row)
       (all_moved (λ v. IsTrue (is_int (column v 7))) rows (map wide_columns (old.now.trees 4))
       (IsPermutation-sym _ _ (serials_shows params old new rows has h)) each)
 
-  pub ranges_in_order : (tables : Tables) → HasTables old.now tables
-      → IsAscending (λ a b. int_cmp a.num b.num ≡ Less) tables.ranges → (found : List RangeRow)
-      → Shown select_ranges_sql params old new rows
-      → map shown_range found ≡ rows → found ≡ tables.ranges
-  ranges_in_order tables held up found h typed =
-      let same : rows ≡ map shown_range tables.ranges = ∥∥₁_elim held.ranges (rows_set _ _)
-      (λ p. ranges_rise params old new rows has tables.ranges up p h) in
-      read_back shown_range range_from (λ x. refl) found tables.ranges (typed ∙ same)
-
 module _ (params : Row) (old new : State) (rows : List Row)
     (has : IsClosedSchema old.now.schema) where
   pub closed_found : (found : List ClosedRow) → Shown select_closed_sql params old new rows
@@ -92,15 +79,6 @@ module _ (params : Row) (old new : State) (rows : List Row)
       (map closed_columns (old.now.trees 6))
   closed_found found h typed = whole shown_closed (map closed_columns (old.now.trees 6)) rows found
       (closed_shows params old new rows has h) typed
-
-  pub closed_in_order : (tables : Tables) → HasTables old.now tables
-      → IsAscending (λ a b. int_cmp a.num b.num ≡ Less) tables.closed → (found : List ClosedRow)
-      → Shown select_closed_sql params old new rows
-      → map shown_closed found ≡ rows → found ≡ tables.closed
-  closed_in_order tables held up found h typed =
-      let same : rows ≡ map shown_closed tables.closed = ∥∥₁_elim held.closed (rows_set _ _)
-      (λ p. closed_rise params old new rows has tables.closed up p h) in
-      read_back shown_closed closed_from (λ x. refl) found tables.closed (typed ∙ same)
 
 pub within_found : (pair low high : ℤ) (old new : State) (rows : List Row) → (tables : Tables)
     → HasTables old.now tables → (found : List SerialRow)

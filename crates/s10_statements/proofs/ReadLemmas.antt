@@ -1,17 +1,13 @@
 -- What a read of one table shows.
 use Rattle.std.proofs.Common.{◌≡◌, List, [], ◌∷◌, ◌++◌, map, filter, flat_map, Bool, true, false}
-use Rattle.std.proofs.Common.{cond, refl, sym, ap, subst, ◌∙◌, Less}
+use Rattle.std.proofs.Common.{cond, refl, sym, ap, subst, ◌∙◌}
 use Rattle.std.specs.List.{list_all}
 use Rattle.std.specs.List.Sorted.{IsPermutation}
-use Rattle.std.specs.Prelude.{IsSorted}
 use Rattle.std.proofs.lemmas.List.Sorted.{IsPermutation-map, IsPermutation-trans}
 use Rattle.sqlite_value.specs.Order.{Row}
-use Rattle.sqlite_trees.specs.Tree.{IsAscending}
 use Rattle.sqlite_sql.specs.Term.{Env, holds}
-use Rattle.sqlite_sql.specs.Query.{Query, Output, output, output_cmp}
-use Rattle.sqlite_sql.proofs.QueryLemmas.{output_cmp_total}
-use Rattle.sqlite_keyed.proofs.SortLemmas.{sorted_unique}
-use Rattle.sqlite_keyed.proofs.ListLemmas.{map-map, filter-map, ascending-map, IsPermutation-filter}
+use Rattle.sqlite_sql.specs.Query.{Query, Output, output}
+use Rattle.sqlite_keyed.proofs.ListLemmas.{map-map, filter-map, IsPermutation-filter}
 use Rattle.sqlite_keyed.proofs.ListLemmas.{map_same, filter_same, map_back}
 
 picked : {A B : Type 0} (p : A → Bool) (f : A → B) (xs : List A)
@@ -64,32 +60,6 @@ module _ (params : Row) (q : Query) (raw : List Row) (columns key : Row → Row)
       same) in
       rw shown (subst (λ l. IsPermutation l (map (λ (o : Output). o.1) ordered))
       (seconds (filter test (map columns raw))) moved)
-
-  -- If the rows that pass are these in some order, and these rise, the rows come in this order.
-  pub rows_rise : {X : Type 0} (shown : X → Row) (xs : List X)
-      → IsAscending (λ a b. output_cmp q (out (shown a)) (out (shown b)) ≡ Less) xs
-      → IsPermutation (map shown xs) (filter test (map columns raw))
-      → (kept ordered : List Output) (rows : List Row)
-      → kept ≡ map out (filter test (map columns raw))
-      → IsPermutation kept ordered → IsSorted (output_cmp q) ordered
-      → rows ≡ map (λ (o : Output). o.1) ordered → rows ≡ map shown xs
-  rows_rise {X} shown xs up has kept ordered rows k same sorted rows-is =
-      let of : X → Output = λ x. out (shown x) in
-      let moved : IsPermutation (map out (map shown xs)) (map out (filter test (map columns raw))) =
-      IsPermutation-map out _ _ has in
-      let near : IsPermutation (map of xs) kept = rw (k, ← map-map out shown xs) moved in
-      let in_order : ordered ≡ map of xs =
-      sorted_unique (output_cmp q) (output_cmp_total q) (map of xs) ordered
-      (ascending-map (λ a b. output_cmp q a b ≡ Less) of xs up)
-      (IsPermutation-trans _ _ _ near same) sorted in
-      rows-is ∙ ap (map (λ (o : Output). o.1)) (in_order ∙ sym (map-map out shown xs))
-      ∙ seconds (map shown xs)
-
--- Typed rows that SQL shows the same way are the same.
-pub read_back : {X : Type 0} (shown : X → Row) (read : Row → X) → ((x : X) → read (shown x) ≡ x)
-    → (xs ys : List X) → map shown xs ≡ map shown ys → xs ≡ ys
-read_back shown read back xs ys e = sym (map_back shown read back xs) ∙ ap (map read) e
-    ∙ map_back shown read back ys
 
 -- Typed rows that show as the rows that pass are those that pass.
 pub selected : {X : Type 0} (shown : X → Row) (read : Row → X) → ((x : X) → read (shown x) ≡ x)

@@ -16,18 +16,17 @@ use Rattle.sqlite.specs.State.{State, HasCleanDisk, Shown, ShowsRows, IsUnchange
 use Rattle.sqlite.specs.State.{Fails, FailsToQuery, Survives, CommitsShowing}
 use Rattle.sqlite.proofs.Callers.{begun_plain, unchanged_then}
 use Rattle.s10_schema.specs.Schema.{IsLedgerSchema, with_others, others_in}
-use Rattle.s10_statements.specs.ConnectionState.{IsQuiescent, AddsNoCrashState}
-use Rattle.s10_statements.specs.Statements.{LeavesTables}
+use Rattle.s10_statements.specs.ConnectionState.{IsQuiescent, AddsNoCrashStateWhere}
+use Rattle.s10_statements.specs.Statements.{LeavesTablesWhere}
 use Rattle.s10_statements.proofs.StateLemmas.{read_open, read_same, read_settled, leaves_then}
 use Rattle.s10_statements.proofs.CrashLemmas.{commits_none, first, spared}
 use Rattle.std.specs.List.{AllZip, AllByRecursion}
-use Rattle.s10_rows.specs.CallRow.{StoredCall}
 use Rattle.s10_rows.specs.declared.serial_row.SerialRow.{SerialRow}
-use Rattle.s10_statements.specs.Shown.{shown_call, shown_serial, serial_front, ShowsCall, ShowsSerial}
+use Rattle.s10_statements.specs.Shown.{shown_serial, serial_front, ShowsSerial}
 
--- The text only reads, in the database of any ledger.
-abbrev pub OnlyReads : List ℕ → Type 0
-OnlyReads sql = (o : Schema) → IsPlain (understood (with_others o) sql)
+-- The text only reads, in a database with this schema.
+abbrev pub OnlyReads : List ℕ → Schema → Type 0
+OnlyReads sql schema = IsPlain (understood schema sql)
 
 -- A step leaves the tables, or rolls the transaction back.
 abbrev pub Moves : State → State → Type 0
@@ -55,10 +54,12 @@ moved_settled old new (inl same) settled opened = same.0.committed_is ∙ settle
 moved_settled old new (inr back) settled opened = (back.undone opened).1
     ∙ sym (back.undone opened).0
 
-pub moved_leaves : {S : Type 0} (g : Ghosts S) (old new : Held S) → doubt (state g old).is_clean
-    ≤ doubt (state g new).is_clean → (old.in_transaction ≡ false → new.in_transaction ≡ false)
-    → (HasCleanDisk (state g new) → Moves (state g old) (state g new)) → LeavesTables g old new
-moved_leaves g old new clean mode moves =
+moved_leaves : {S : Type 0} (Fits : Schema → Type 0) (g : Ghosts S) (old new : Held S)
+    → doubt (state g old).is_clean ≤ doubt (state g new).is_clean
+    → (old.in_transaction ≡ false → new.in_transaction ≡ false)
+    → (HasCleanDisk (state g new) → Moves (state g old) (state g new))
+    → LeavesTablesWhere Fits g old new
+moved_leaves Fits g old new clean mode moves =
     let before : HasCleanDisk (state g new) → HasCleanDisk (state g old) =
     λ c. omega (arith, clean, c) in
     record {
@@ -73,8 +74,7 @@ moved_leaves g old new clean mode moves =
       };
     }
 
-module _ {S : Type 0} (g : Ghosts S) (sql : List ℕ) (params : Row) (plain : OnlyReads sql)
-    (old new : Held S)
+module _ {S : Type 0} (g : Ghosts S) (sql : List ℕ) (params : Row) (old new : Held S)
     (clean : doubt (state g old).is_clean ≤ doubt (state g new).is_clean) (mode : old.in_transaction
     ≡ false → new.in_transaction ≡ false) where
   -- What an answered query leaves, complete or with an error.
@@ -83,7 +83,7 @@ module _ {S : Type 0} (g : Ghosts S) (sql : List ℕ) (params : Row) (plain : On
       → IfOk (r c) (Shown sql params (state g old) (state g new)))
       → ((c : HasCleanDisk (state g new))
       → IfErr (r c) (FailsToQuery sql params (state g old) (state g new)))
-      → LeavesTables g old new
+      → LeavesTablesWhere (OnlyReads sql) g old new
   answered_leaves r ok err =
       let before : HasCleanDisk (state g new) → HasCleanDisk (state g old) =
       λ c. omega (arith, clean, c) in
@@ -91,10 +91,8 @@ module _ {S : Type 0} (g : Ghosts S) (sql : List ℕ) (params : Row) (plain : On
         clean = clean;
         was_open = λ c opened. read_open (λ (rows : List Row). rows) sql params (state g old)
             (state g new) (r c) (ok c) (err c) opened;
-        now = λ c opened settled has. read_same (λ (rows : List Row). rows) sql params (state g old)
-            (state g new) (r c) (ok c) (err c)
-            (with_others (others_in (state g old).now.schema))
-            (plain (others_in (state g old).now.schema)) has.is
+        now = λ c opened settled plain. read_same (λ (rows : List Row). rows) sql params
+            (state g old) (state g new) (r c) (ok c) (err c) (state g old).now.schema plain refl
             (λ was. sym (settled.committed (before c) was)) opened;
         settled = λ settled. record {
           idle = mode settled.idle;
@@ -105,7 +103,7 @@ module _ {S : Type 0} (g : Ghosts S) (sql : List ℕ) (params : Row) (plain : On
 
   pub failed_leaves : (e : Error)
       → (HasCleanDisk (state g new) → FailsToQuery sql params (state g old) (state g new) e)
-      → LeavesTables g old new
+      → LeavesTablesWhere (OnlyReads sql) g old new
   failed_leaves e fails = answered_leaves (λ c. Err e) (λ c. tt) fails
 
   begun_was : HasBegun g sql params old new → IsTrue (state g new).is_open
@@ -115,14 +113,12 @@ module _ {S : Type 0} (g : Ghosts S) (sql : List ℕ) (params : Row) (plain : On
       (state g new) (Ok _) it.1 tt opened
 
   begun_now : HasBegun g sql params old new → IsQuiescent g old → HasCleanDisk (state g old)
-      → IsLedgerSchema (state g old).now.schema → IsTrue (state g new).is_open → (state g new).now
+      → OnlyReads sql (state g old).now.schema → IsTrue (state g new).is_open → (state g new).now
       ≡ (state g old).now
-  begun_now (inl it) settled c has opened = it.1.0.now_is
-  begun_now (inr it) settled c has opened =
+  begun_now (inl it) settled c plain opened = it.1.0.now_is
+  begun_now (inr it) settled c plain opened =
       read_same (λ (rows : List Row). rows) sql params (state g old) (state g new) (Ok _) it.1 tt
-      (with_others (others_in (state g old).now.schema))
-      (plain (others_in (state g old).now.schema)) has.is (λ was. sym (settled.committed c was))
-      opened
+      (state g old).now.schema plain refl (λ was. sym (settled.committed c was)) opened
 
   begun_settled : HasBegun g sql params old new → IsQuiescent g old → HasCleanDisk (state g old)
       → IsTrue (state g new).is_open → (state g new).committed ≡ (state g new).now
@@ -131,15 +127,15 @@ module _ {S : Type 0} (g : Ghosts S) (sql : List ℕ) (params : Row) (plain : On
   begun_settled (inr it) settled c opened = read_settled (λ (rows : List Row). rows) sql params
       (state g old) (state g new) (Ok _) it.1 tt settled.idle (settled.committed c) opened
 
-  pub begun_leaves : (HasCleanDisk (state g new) → HasBegun g sql params old new)
-      → LeavesTables g old new
+  begun_leaves : (HasCleanDisk (state g new) → HasBegun g sql params old new)
+      → LeavesTablesWhere (OnlyReads sql) g old new
   begun_leaves begun =
       let before : HasCleanDisk (state g new) → HasCleanDisk (state g old) =
       λ c. omega (arith, clean, c) in
       record {
         clean = clean;
         was_open = λ c opened. begun_was (begun c) opened;
-        now = λ c opened settled has. begun_now (begun c) settled (before c) has opened;
+        now = λ c opened settled plain. begun_now (begun c) settled (before c) plain opened;
         settled = λ settled. record {
           idle = mode settled.idle;
           committed = λ c opened. begun_settled (begun c) settled (before c) opened;
@@ -147,11 +143,10 @@ module _ {S : Type 0} (g : Ghosts S) (sql : List ℕ) (params : Row) (plain : On
       }
 
   pub begun_spares : Survives (state g old) (state g new) (CommitsShowing sql params (state g old))
-      → AddsNoCrashState g old new
-  begun_spares survives c has db left =
-      first (commits_none sql params (state g old)
-      (with_others (others_in (state g old).now.schema)) has.is
-      (plain (others_in (state g old).now.schema)) db) (survives.crash c db left)
+      → AddsNoCrashStateWhere (OnlyReads sql) g old new
+  begun_spares survives c plain db left =
+      first (commits_none sql params (state g old) (state g old).now.schema refl plain db)
+      (survives.crash c db left)
 
 -- An answer that came after steps that changed nothing.
 shown_before : (sql : List ℕ) (params : Row) (a b c : State) (rows : List Row)
@@ -181,51 +176,49 @@ shown_before sql params a b c rows plain same h =
 -- So far rows were given of which P is true.
 pub record IsUnderWay {S : Type 0} (g : Ghosts S) (sql : List ℕ) (params : Row)
     (P : List Row → Type 0) (old now : Held S) : Type 0 where
-  pub leaves : LeavesTables g old now
-  pub spares : AddsNoCrashState g old now
-  pub given : HasCleanDisk (state g now) → IsLedgerSchema (state g old).now.schema
+  pub leaves : LeavesTablesWhere (OnlyReads sql) g old now
+  pub spares : AddsNoCrashStateWhere (OnlyReads sql) g old now
+  pub given : HasCleanDisk (state g now) → OnlyReads sql (state g old).now.schema
       → (rows : List Row) × HasGiven g sql params now rows × IsUnchanged (state g old) (state g now)
       × P rows
 
 -- A text that only reads in any ledger only reads in this one.
-pub known_plain : (sql : List ℕ) → OnlyReads sql → (schema : Schema) → IsLedgerSchema schema
-    → IsPlain (understood schema sql)
-known_plain sql plain schema has = subst (λ (s : Schema). IsPlain (understood s sql)) (sym has.is)
-    (plain (others_in schema))
+pub known_plain : (sql : List ℕ) → ((o : Schema) → OnlyReads sql (with_others o))
+    → (schema : Schema) → IsLedgerSchema schema → OnlyReads sql schema
+known_plain sql plain schema has = subst (OnlyReads sql) (sym has.is) (plain (others_in schema))
 
-module _ {S : Type 0} (g : Ghosts S) (sql : List ℕ) (params : Row) (plain : OnlyReads sql) where
+module _ {S : Type 0} (g : Ghosts S) (sql : List ℕ) (params : Row) where
   pub begun : (P : List Row → Type 0) (old new : Held S)
       → (old.in_transaction ≡ false → new.in_transaction ≡ false)
       → Survives (state g old) (state g new) (CommitsShowing sql params (state g old))
       → (HasCleanDisk (state g new) → HasBegun g sql params old new) → P []
       → IsUnderWay g sql params P old new
   begun P old new mode survives begins none = record {
-    leaves = begun_leaves g sql params plain old new survives.clean mode begins;
-    spares = begun_spares g sql params plain old new survives.clean mode survives;
-    given = λ c has. let it =
-        begun_plain g sql params old new (known_plain sql plain old.schema has) (begins c) in
+    leaves = begun_leaves g sql params old new survives.clean mode begins;
+    spares = begun_spares g sql params old new survives.clean mode survives;
+    given = λ c plain. let it = begun_plain g sql params old new plain (begins c) in
         ([], it.0, it.1, none);
   }
 
 module _ {S : Type 0} {g : Ghosts S} {sql : List ℕ} {params : Row} {P : List Row → Type 0}
-    {old a : Held S} (plain : OnlyReads sql) (it : IsUnderWay g sql params P old a) (b : Held S)
+    {old a : Held S} (it : IsUnderWay g sql params P old a) (b : Held S)
     (mode : a.in_transaction ≡ false → b.in_transaction ≡ false)
     (survives : Survives (state g a) (state g b) (λ _. ⊥)) where
   stepped_leaves : (HasCleanDisk (state g b) → Moves (state g a) (state g b))
-      → LeavesTables g old b
-  stepped_leaves moves = leaves_then g old a b it.leaves (moved_leaves g a b survives.clean mode
-      moves)
+      → LeavesTablesWhere (OnlyReads sql) g old b
+  stepped_leaves moves = leaves_then g old a b it.leaves
+      (moved_leaves (OnlyReads sql) g a b survives.clean mode moves)
 
   before : HasCleanDisk (state g b) → HasCleanDisk (state g a)
   before c = omega (arith, survives.clean, c)
 
-  stepped_spares : AddsNoCrashState g old b
+  stepped_spares : AddsNoCrashStateWhere (OnlyReads sql) g old b
   stepped_spares c has db left =
       it.spares (before c) has db (spared (state g a) (state g b) survives c db left)
 
   -- No row was read, or none is kept.
-  pub stopped : (HasCleanDisk (state g b) → Moves (state g a) (state g b)) → LeavesTables g old b
-      × AddsNoCrashState g old b
+  pub stopped : (HasCleanDisk (state g b) → Moves (state g a) (state g b))
+      → LeavesTablesWhere (OnlyReads sql) g old b × AddsNoCrashStateWhere (OnlyReads sql) g old b
   stopped moves = (stepped_leaves moves, stepped_spares)
 
   pub stepped : (row : Row) (Q : List Row → Type 0)
@@ -244,13 +237,12 @@ module _ {S : Type 0} {g : Ghosts S} {sql : List ℕ} {params : Row} {P : List R
   }
 
   pub ended : (HasCleanDisk (state g b) → Advances g a b None) → HasCleanDisk (state g b)
-      → IsLedgerSchema (state g old).now.schema
+      → OnlyReads sql (state g old).now.schema
       → (rows : List Row) × Shown sql params (state g old) (state g b) rows × P rows
-  ended moves c has =
-      let was = it.given (before c) has in
-      let known : IsPlain (understood (state g a).now.schema sql) =
-      subst (λ (d : Database). IsPlain (understood d.schema sql)) (sym was.2.0.now_is)
-      (known_plain sql plain (state g old).now.schema has) in (
+  ended moves c plain =
+      let was = it.given (before c) plain in
+      let known : OnlyReads sql (state g a).now.schema =
+      subst (λ (d : Database). OnlyReads sql d.schema) (sym was.2.0.now_is) plain in (
         was.0,
         shown_before sql params (state g old) (state g a) (state g b) was.0 known was.2
             (moves c sql params was.0 was.1),
@@ -271,12 +263,12 @@ zip_push R xs new x ys y e was is = subst (λ l. AllZip R l (ys ++ y ∷ [])) (s
     (pushed R xs x ys y was is)
 
 -- Typed rows that SQL shows so, one by one.
-pub calls_shown : (calls : List StoredCall) (rows : List Row) → AllZip ShowsCall calls rows
-    → map shown_call calls ≡ rows
-calls_shown [] [] each = refl
-calls_shown [] (y ∷ ys) each = absurd each
-calls_shown (x ∷ xs) [] each = absurd each
-calls_shown (x ∷ xs) (y ∷ ys) each = ap₂ ◌∷◌ each.0 (calls_shown xs ys each.1)
+pub all_shown : {X : Type 0} (shown : X → Row) (typed : List X) (rows : List Row)
+    → AllZip (λ x row. shown x ≡ row) typed rows → map shown typed ≡ rows
+all_shown shown [] [] each = refl
+all_shown shown [] (y ∷ ys) each = absurd each
+all_shown shown (x ∷ xs) [] each = absurd each
+all_shown shown (x ∷ xs) (y ∷ ys) each = ap₂ ◌∷◌ each.0 (all_shown shown xs ys each.1)
 
 pub serials_shown : (serials : List SerialRow) (rows : List Row) → AllZip ShowsSerial serials rows
     → (map shown_serial serials ≡ map serial_front rows)

@@ -110,9 +110,17 @@ serial_front v = map (column v) (range_with_len 0 (length serials_table.columns)
 abbrev pub ShowsCall : StoredCall → Row → Type 0
 ShowsCall call row = shown_call call ≡ row
 
+-- SQL shows a row of ranges so.
+abbrev pub ShowsRange : RangeRow → Row → Type 0
+ShowsRange range row = shown_range range ≡ row
+
 -- SQL shows a row of serials so, with its rowid after the columns, which is an integer.
 abbrev pub ShowsSerial : SerialRow → Row → Type 0
 ShowsSerial serial row = (shown_serial serial ≡ serial_front row) × IsTrue (is_int (column row 7))
+
+-- SQL shows a row of closed so.
+abbrev pub ShowsClosed : ClosedRow → Row → Type 0
+ShowsClosed closed row = shown_closed closed ≡ row
 
 -- The columns of a stored row of head.
 abbrev pub head_columns : Row → Row

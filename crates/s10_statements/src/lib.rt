@@ -17,6 +17,6 @@ mod writes;
 pub use creating::{create_tables, refusal_of};
 pub use migrating::create_closed;
 pub use observer::{NoObserver, Observer};
-pub use reads::{all_closed, all_heads, all_ranges, read_calls, read_serials, serials_within};
+pub use reads::{all_heads, read_calls, read_closed, read_ranges, read_serials, serials_within};
 pub use row_sink::RowSink;
 pub use writes::commit_rows;

@@ -5,8 +5,8 @@ use sqlite::Error;
 /// Is informed while a ledger is created or opened: of its progress, and of the error of a
 /// statement that failed.
 pub trait Observer {
-    /// Reports that `rows` rows of this table were read so far. Called once per row of `calls` and
-    /// of `serials`.
+    /// Reports that `rows` rows of this table were read so far. Called once per row of `calls`,
+    /// `ranges`, `serials` and `closed`.
     fn rows_read(&mut self, table: &str, rows: u64);
 
     /// Reports the error of the statement that failed and ended the creation or the opening.

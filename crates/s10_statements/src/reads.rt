@@ -11,6 +11,8 @@ ghost use Rattle.sqlite.specs.Given.{IsPlain};
 ghost use Rattle.sqlite.specs.Listing.{understood};
 ghost use Rattle.sqlite.specs.Values.{bound};
 ghost use Rattle.s10_rows.specs.CallRow.{StoredCall};
+ghost use Rattle.s10_rows.specs.declared.closed_row.ClosedRow.{ClosedRow};
+ghost use Rattle.s10_rows.specs.declared.range_row.RangeRow.{RangeRow};
 ghost use Rattle.s10_rows.specs.declared.serial_row.SerialRow.{SerialRow};
 ghost use Rattle.s10_rows.specs.Tables.{Tables, HaveSameRows, serial_row_cmp};
 ghost use Rattle.s10_schema.specs.Schema.{IsLedgerSchema, IsClosedSchema};
@@ -103,31 +105,35 @@ pub fn read_calls<S: Alter, W: Observer, K: RowSink<CallRow>>(
     )
 }
 
-/// Returns all rows of `ranges`, in order of their numbers.
+/// Passes each row of `ranges` to the sink, in order of their numbers, and reports it to the
+/// observer.
 ///
 /// # Errors
 ///
 /// The error of the query, or of a value of another type than its column's; `OutOfMemory` if out of
-/// memory.
-pub fn all_ranges<S: Alter>(alloc: Global, conn: &mut Connection<S>) -> Result<Vec<RangeRow>, Error>
+/// memory. The sink may have taken some rows.
+pub fn read_ranges<S: Alter, W: Observer, K: RowSink<RangeRow>>(
+    conn: &mut Connection<S>,
+    sink: &mut K,
+    observer: &mut W,
+) -> Result<(), Error>
     ensures spares { AddsNoCrashState S.Store conn.old conn.new }
     ensures leaves { LeavesTables S.Store conn.old conn.new }
     ensures opened { IsClean S.Store conn.new → OnOk result (IsOpen S.Store conn.new) }
     ensures rows { IsClean S.Store conn.new
-        → IfOk result (λ rows. IsLedgerSchema (state S.Store conn.old).now.schema
-        → HaveSameRows (map shown_range rows.items)
-        (map range_columns ((state S.Store conn.old).now.trees 3))) }
-    ensures in_order { IsClean S.Store conn.new → IfOk result (λ rows. (tables : Tables)
-        → HasTables (state S.Store conn.old).now tables
-        → IsAscending (λ a b. int_cmp a.num b.num ≡ Ordering.Less) tables.ranges
-        → rows.items ≡ tables.ranges) }
+        → OnOk result (IsLedgerSchema (state S.Store conn.old).now.schema
+        → (ranges : List RangeRow) × HaveSameRows (map shown_range ranges)
+        (map range_columns ((state S.Store conn.old).now.trees 3))
+        × IsAscending (λ a b. int_cmp a.num b.num ≢ Ordering.Greater) ranges
+        × K.has_taken sink.old ranges sink.new) }
 {
-    let rows = read(
+    stream_rows(
         conn,
         "SELECT num, holder, pair, low, high, mark FROM ranges ORDER BY num",
-        &[],
-    )?;
-    rows_in(alloc, &rows)
+        "ranges",
+        sink,
+        observer,
+    )
 }
 
 /// Returns the rows of `serials` with that pair and a serial from `low` to `high`.
@@ -193,28 +199,33 @@ pub fn read_serials<S: Alter, W: Observer, K: RowSink<SerialRow>>(
     )
 }
 
-/// Returns all rows of `closed`, in order of the numbers of their ranges.
+/// Passes each row of `closed` to the sink, in order of the numbers of their ranges, and reports it
+/// to the observer.
 ///
 /// # Errors
 ///
 /// The error of the query, or of a value of another type than its column's; `OutOfMemory` if out of
-/// memory.
-pub fn all_closed<S: Alter>(
-    alloc: Global,
+/// memory. The sink may have taken some rows.
+pub fn read_closed<S: Alter, W: Observer, K: RowSink<ClosedRow>>(
     conn: &mut Connection<S>,
-) -> Result<Vec<ClosedRow>, Error>
+    sink: &mut K,
+    observer: &mut W,
+) -> Result<(), Error>
     ensures spares { AddsNoCrashStateWhere IsClosedSchema S.Store conn.old conn.new }
     ensures leaves { LeavesTablesWhere IsClosedSchema S.Store conn.old conn.new }
     ensures opened { IsClean S.Store conn.new → OnOk result (IsOpen S.Store conn.new) }
     ensures rows { IsClean S.Store conn.new
-        → IfOk result (λ rows. IsClosedSchema (state S.Store conn.old).now.schema
-        → HaveSameRows (map shown_closed rows.items)
-        (map closed_columns ((state S.Store conn.old).now.trees 6))) }
-    ensures in_order { IsClean S.Store conn.new → IfOk result (λ rows. (tables : Tables)
-        → HasTables (state S.Store conn.old).now tables
-        → IsAscending (λ a b. int_cmp a.num b.num ≡ Ordering.Less) tables.closed
-        → rows.items ≡ tables.closed) }
+        → OnOk result (IsClosedSchema (state S.Store conn.old).now.schema
+        → (closed : List ClosedRow) × HaveSameRows (map shown_closed closed)
+        (map closed_columns ((state S.Store conn.old).now.trees 6))
+        × IsAscending (λ a b. int_cmp a.num b.num ≢ Ordering.Greater) closed
+        × K.has_taken sink.old closed sink.new) }
 {
-    let rows = read(conn, "SELECT num, arrival FROM closed ORDER BY num", &[])?;
-    rows_in(alloc, &rows)
+    stream_rows(
+        conn,
+        "SELECT num, arrival FROM closed ORDER BY num",
+        "closed",
+        sink,
+        observer,
+    )
 }

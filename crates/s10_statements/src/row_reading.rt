@@ -1,8 +1,8 @@
 //! Reads typed rows from the rows of a result.
 
 ghost use Rattle.std.specs.Prelude.{◌≡◌, length, IfOk, map};
-ghost use Rattle.s10_statements.specs.Shown.{shown_head, shown_range, shown_serial, shown_closed};
-ghost use Rattle.s10_statements.specs.Shown.{serial_front, ShowsCall, ShowsSerial};
+ghost use Rattle.s10_statements.specs.Shown.{shown_head, shown_serial, serial_front, ShowsCall};
+ghost use Rattle.s10_statements.specs.Shown.{ShowsRange, ShowsSerial, ShowsClosed};
 
 use crate::from_row::FromRow;
 use crate::streamed_row::StreamedRow;
@@ -53,11 +53,11 @@ impl StreamedRow for CallRow {
     }
 }
 
-impl FromRow for RangeRow {
-    ghost shown = { shown_range };
+impl StreamedRow for RangeRow {
+    ghost is_shown_as = { ShowsRange };
 
-    fn from_row(row: &Row) -> Result<RangeRow, Error>
-        ensures { IfOk result (λ range. shown_range range ≡ row.now) }
+    fn read(row: &Row) -> Result<RangeRow, Error>
+        ensures { IfOk result (λ range. ShowsRange range row.now) }
     {
         check_width(row, 6)?;
         Ok(RangeRow {
@@ -109,11 +109,11 @@ impl StreamedRow for SerialRow {
     }
 }
 
-impl FromRow for ClosedRow {
-    ghost shown = { shown_closed };
+impl StreamedRow for ClosedRow {
+    ghost is_shown_as = { ShowsClosed };
 
-    fn from_row(row: &Row) -> Result<ClosedRow, Error>
-        ensures { IfOk result (λ closed. shown_closed closed ≡ row.now) }
+    fn read(row: &Row) -> Result<ClosedRow, Error>
+        ensures { IfOk result (λ closed. ShowsClosed closed row.now) }
     {
         check_width(row, 2)?;
         Ok(ClosedRow {

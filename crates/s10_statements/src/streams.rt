@@ -3,14 +3,12 @@
 ghost use Rattle.std.specs.Prelude.{List, [], OnOk};
 ghost use Rattle.std.specs.List.{AllZip};
 ghost use Rattle.sqlite_value.specs.Order.{Row};
-ghost use Rattle.sqlite_schema.specs.declared.schema.Schema.{Schema};
 ghost use Rattle.sqlite.specs.Held.{state};
 ghost use Rattle.sqlite.specs.State.{Shown};
 ghost use Rattle.sqlite.specs.Given.{IsPlain};
 ghost use Rattle.sqlite.specs.Listing.{understood};
-ghost use Rattle.s10_schema.specs.Schema.{IsLedgerSchema, with_others};
-ghost use Rattle.s10_statements.specs.ConnectionState.{AddsNoCrashState, IsClean, IsOpen};
-ghost use Rattle.s10_statements.specs.Statements.{LeavesTables};
+ghost use Rattle.s10_statements.specs.ConnectionState.{AddsNoCrashStateWhere, IsClean, IsOpen};
+ghost use Rattle.s10_statements.specs.Statements.{LeavesTablesWhere};
 
 use crate::observer::Observer;
 use crate::row_sink::RowSink;
@@ -28,12 +26,13 @@ pub(crate) fn stream_rows<S: Alter, W: Observer, T: StreamedRow, K: RowSink<T>>(
     sink: &mut K,
     observer: &mut W,
 ) -> Result<(), Error>
-    requires plain { (o : Schema) → IsPlain (understood (with_others o) sql.now) }
-    ensures leaves { LeavesTables S.Store conn.old conn.new }
-    ensures spares { AddsNoCrashState S.Store conn.old conn.new }
+    ensures leaves { LeavesTablesWhere (λ schema. IsPlain (understood schema sql.now)) S.Store
+        conn.old conn.new }
+    ensures spares { AddsNoCrashStateWhere (λ schema. IsPlain (understood schema sql.now)) S.Store
+        conn.old conn.new }
     ensures opened { IsClean S.Store conn.new → OnOk result (IsOpen S.Store conn.new) }
     ensures rows { IsClean S.Store conn.new
-        → OnOk result (IsLedgerSchema (state S.Store conn.old).now.schema
+        → OnOk result (IsPlain (understood (state S.Store conn.old).now.schema sql.now)
         → (rows : List Row) × Shown sql.now [] (state S.Store conn.old)
         (state S.Store conn.new) rows × (typed : List T) × AllZip T.is_shown_as typed rows
         × K.has_taken sink.old typed sink.new) }

@@ -11,7 +11,7 @@ rows-init g c =
     let made = c.in_ok-shown.ensures in
     record {
       same_reference = refl;
-      so_far = begun g.S.Store c.args.sql.now [] c.requires.plain _
+      so_far = begun g.S.Store c.args.sql.now [] _
           c.args.conn.now c.in_ok-shown.shown.conn.now made.mode made.survives made.begun
           ([], tt, g.met.K.RowSink.none c.args.sink.now);
     }
@@ -26,7 +26,7 @@ rows-preserved g c =
     let next = c.in_ok-read.field-0 in
     record {
       same_reference = moved.same_reference ∙ c.rows.invariant.same_reference;
-      so_far = stepped c.requires.plain c.rows.invariant.so_far now moved.mode moved.survives row
+      so_far = stepped c.rows.invariant.so_far now moved.mode moved.survives row
           _ moved.same
           (λ sure. subst (λ (r : Option Row). Advances g.S.Store c.rows.shown.conn.now now r)
           some (moved.ok sure))
@@ -44,12 +44,12 @@ returns-in_err-shown g c =
     c.query.follows.holds-at-none in
     let err = (err_from_is_err_and c.from_residual.result c.from_residual.ensures.1).1 in
     record {
-      leaves = failed_leaves g.S.Store c.args.sql.now [] c.requires.plain
+      leaves = failed_leaves g.S.Store c.args.sql.now []
           c.args.conn.now
           c.query.follows.lender-at-none refused.survives.clean refused.mode
           c.in_err-shown.field-0.0 (λ clean. if_err c.query.result _ c.in_err-shown.field-0.0
           c.in_err-shown.was (refused.err clean));
-      spares = begun_spares g.S.Store c.args.sql.now [] c.requires.plain
+      spares = begun_spares g.S.Store c.args.sql.now []
           c.args.conn.now
           c.query.follows.lender-at-none refused.survives.clean refused.mode refused.survives;
       opened = λ clean. rw err tt;
@@ -59,7 +59,7 @@ returns-in_err-shown g c =
 pub returns-in_err-advance : goal.returns-in_err-advance
 returns-in_err-advance g c =
     let moved = c.in_err-advance.ensures in
-    let it = stopped c.requires.plain c.rows.invariant.so_far c.advance.new.self.conn.now moved.mode
+    let it = stopped c.rows.invariant.so_far c.advance.new.self.conn.now moved.mode
     moved.survives (λ sure. failed_moves _ _ _ (moved.kept sure)) in
     let err = (err_from_is_err_and c.from_residual-in_err-advance.result
     c.from_residual-in_err-advance.ensures.1).1 in
@@ -74,7 +74,7 @@ returns-in_err-advance g c =
 pub returns-in_err-read : goal.returns-in_err-read
 returns-in_err-read g c =
     let moved = c.in_ok-advance.ensures in
-    let it = stopped c.requires.plain c.rows.invariant.so_far c.advance.new.self.conn.now moved.mode
+    let it = stopped c.rows.invariant.so_far c.advance.new.self.conn.now moved.mode
     moved.survives (λ sure. inl (moved.same sure)) in
     let err = (err_from_is_err_and c.from_residual-in_err-read.result
     c.from_residual-in_err-read.ensures.1).1 in
@@ -91,7 +91,7 @@ pub returns-in_default : goal.returns-in_default
 returns-in_default g c =
     let now = c.advance.new.self.conn.now in
     let moved = c.in_ok-advance.ensures in
-    let it = stopped c.requires.plain c.rows.invariant.so_far now moved.mode moved.survives
+    let it = stopped c.rows.invariant.so_far now moved.mode moved.survives
     (λ sure. inl (moved.same sure)) in
     let none : row_if c.advance.new.self.has_row now ≡ None =
     sym (rw c.in_default.is at c.get.ensures) in
@@ -101,7 +101,7 @@ returns-in_default g c =
       spares = it.1;
       opened = λ clean. (moved.same clean).0.is_open;
       rows = λ clean has.
-          let found = ended c.requires.plain c.rows.invariant.so_far now moved.mode moved.survives
+          let found = ended c.rows.invariant.so_far now moved.mode moved.survives
           (λ sure. subst (λ (r : Option Row). Advances g.S.Store c.rows.shown.conn.now now r) none
           (moved.ok sure)) clean has in
           (found.0, found.1, found.2.0, found.2.1, found.2.2);

@@ -1,6 +1,7 @@
 use Rattle.std.proofs.Common.{◌≡◌, ◌∙◌, [], map, ap, pos, subst, sym, IfOk}
 use Rattle.std.proofs.lemmas.Result.{err_from_is_err_and}
 use Rattle.sqlite.specs.Effect.{Database}
+use Rattle.s10_schema.specs.Schema.{IsLedgerSchema}
 use Rattle.s10_rows.specs.Tables.{HaveSameRows}
 use Rattle.s10_statements.specs.Shown.{shown_call, call_columns}
 use Rattle.s10_ledger.proofs.ReadingLemmas.{clean_between, same_between, schema_between, both_leave}
@@ -78,7 +79,7 @@ pub returns-in_err-heads-clause-spares : goal.returns-in_err-heads-clause-spares
 returns-in_err-heads-clause-spares g c = λ quiet. c.all_heads.ensures.spares
 
 pub returns-in_err-read_calls-clause-spares : goal.returns-in_err-read_calls-clause-spares
-returns-in_err-read_calls-clause-spares g c = λ quiet. both_spare g.S.Store c.args.conn.now
+returns-in_err-read_calls-clause-spares g c = λ quiet. both_spare IsLedgerSchema g.S.Store c.args.conn.now
     c.all_heads.new.conn c.read_calls.new.conn
     c.read_calls.ensures.leaves.clean
     (λ was has. ap (λ (d : Database). d.schema) (c.all_heads.ensures.leaves.now was
@@ -86,7 +87,7 @@ returns-in_err-read_calls-clause-spares g c = λ quiet. both_spare g.S.Store c.a
     c.read_calls.ensures.spares
 
 pub returns-clause-spares : goal.returns-clause-spares
-returns-clause-spares g c = λ quiet. both_spare g.S.Store c.args.conn.now c.all_heads.new.conn
+returns-clause-spares g c = λ quiet. both_spare IsLedgerSchema g.S.Store c.args.conn.now c.all_heads.new.conn
     c.read_calls.new.conn
     c.read_calls.ensures.leaves.clean
     (λ was has. ap (λ (d : Database). d.schema) (c.all_heads.ensures.leaves.now was
