@@ -2,39 +2,15 @@
 use Rattle.std.proofs.Common.{◌≡◌, ◌∙◌, ℕ, zero, suc, ◌+◌, pos, List, [], ◌∷◌, map, Some, sym, ap}
 use Rattle.std.proofs.Common.{arith}
 use Rattle.std.specs.Prelude.{Contains, slice_get}
-use Rattle.std.specs.Option.{option_map}
-use Rattle.std.proofs.lemmas.Option.{none-some, same_Some, slice_get-map}
+use Rattle.std.proofs.lemmas.Option.{none-some, same_Some}
 use Rattle.s10_history.specs.declared.entry.Entry.{Entry}
 use Rattle.s10_history.specs.declared.range.Range.{Range}
 use Rattle.s10_history.specs.History.{ranges_of}
 use Rattle.s10_history.specs.Issues.{pick_of, issues_of}
 use Rattle.s10_history.proofs.Numbering.{Numbered, numbered}
-use Rattle.s10_ranges.specs.declared.mark.Mark.{Mark}
-use Rattle.s10_ranges.specs.declared.ranges.Ranges.{Ranges}
-use Rattle.s10_ranges.specs.Mirror.{Mirrors}
-use Rattle.s10_ranges.specs.Laps.{mark_of}
 use Rattle.s10_rows.specs.declared.range_row.RangeRow.{RangeRow}
 use Rattle.s10_rows.specs.Tables.{range_row, range_rows}
 use Rattle.s10_index.proofs.SerialLookups.{at_index}
-
--- The row of a range is at the index of the range.
-pub range_row_at : (r : Ranges) (h : List Entry) (place : ℕ) (range : Range) (mark : Mark)
-    (row : RangeRow) → Mirrors r h → slice_get r.ranges.items place ≡ Some range
-    → slice_get r.marks.items place ≡ Some mark → row ≡ range_row mark.serial range
-    → Some row ≡ slice_get (range_rows h) place
-range_row_at r h place range mark row m at marked is =
-    let here : slice_get (ranges_of h) place ≡ Some range =
-    ap (λ (l : List Range). slice_get l place) (sym m.ranges) ∙ at in
-    let own : Some mark ≡ Some (mark_of (issues_of h) range) =
-    sym marked ∙ ap (λ (l : List Mark). slice_get l place) m.marks
-    ∙ slice_get-map (mark_of (issues_of h)) (ranges_of h) place
-    ∙ ap (option_map (mark_of (issues_of h))) here in
-    let row_of : Range → RangeRow = λ s. range_row (pick_of (issues_of h) s) s in
-    ap Some is
-    ∙ ap (λ (k : Mark). Some (range_row k.serial range))
-    (same_Some mark (mark_of (issues_of h) range) own)
-    ∙ ap (option_map row_of) (sym here)
-    ∙ sym (slice_get-map row_of (ranges_of h) place)
 
 numbered_at : (f : Range → ℕ) (n : ℕ) (rs : List Range) → Numbered n rs → (k : ℕ) (row : RangeRow)
     → slice_get (map (λ r. range_row (f r) r) rs) k ≡ Some row → row.num ≡ pos (n + k)

@@ -61,6 +61,17 @@ fn calls_are_checked_under_the_settings_of_the_head(rt: HostRuntime) {
 const OTHERS: &[Change] = &[
     ("UPDATE ranges SET high = 3", Err(OpenFault::Damaged(0))),
     ("UPDATE ranges SET mark = 0", Err(OpenFault::Damaged(0))),
+    ("UPDATE ranges SET num = 2", Err(OpenFault::Damaged(0))),
+    ("UPDATE ranges SET num = 0", Err(OpenFault::Damaged(0))),
+    ("DELETE FROM ranges", Err(OpenFault::Damaged(0))),
+    (
+        "INSERT INTO ranges (num, holder, pair, low, high, mark) VALUES (2, 7, 1380009794, 3, 4, 3)",
+        Err(OpenFault::Damaged(0)),
+    ),
+    (
+        "INSERT INTO ranges (num, holder, pair, low, high, mark) VALUES (-1, 7, 1380009794, 3, 4, 3)",
+        Err(OpenFault::Damaged(0)),
+    ),
     (
         "UPDATE serials SET voided = 1 WHERE serial = 1",
         Err(OpenFault::Damaged(0)),
