@@ -7,9 +7,14 @@
 #
 # Each check has a line with its seconds. Its output is shown if it fails; what it skipped is always shown. A check is skipped if
 # the machine lacks a tool that it needs, if it wants root and there is none, if there is no program, or if it might not end in
-# the minutes that the gate has, GATE_MINUTES or 170; this fails nothing. The last line is `N passed, M failed`, of `rt ci` and of
-# the checks together. The status is that of the worst.
+# the minutes that the gate has, GATE_MINUTES or 170. This fails nothing, except under CI (CI=true) for the checks of GATE_MUST:
+# there root also installs the tools first (checks/tools.sh). The last lines say what was skipped for lack of what, and then
+# `N passed, M failed`, of `rt ci` and of the checks together. The status is that of the worst.
 set -u -o pipefail
+
+# The checks that must run under CI. The others need a browser, tshark, or the right to mount a disk.
+GATE_MUST='front_door counts build_log texts edges completions pages killed_server killed_server_64 until killed_notes
+    days_ahead trials refused_program together snapshots shards sizes package library c_library'
 
 top=$(dirname "$(dirname "$(readlink -f "${BASH_SOURCE[0]}")")")
 room=$(mktemp -d) || exit
@@ -22,6 +27,8 @@ library=$room/libs10_c.a
 chosen=()
 minutes=${GATE_MINUTES:-170}
 passed=0 failed=0 skipped=0 running=
+# A line for each check that was skipped, and for each part of one.
+skips=()
 
 # Ends the check that runs, and removes what is ours.
 end() {
@@ -61,6 +68,22 @@ is_chosen() { # NAME
     [ ${#chosen[@]} -eq 0 ] || [[ " ${chosen[*]} " == *" $1 "* ]]
 }
 
+# Whether a check fails the gate if it is skipped.
+must_run() { # NAME
+    [ "${CI:-}" = true ] && [[ " ${GATE_MUST//$'\n'/ } " == *" $1 "* ]]
+}
+
+skip() { # NAME SECONDS WHY
+    if must_run "$1"; then
+        failed=$((failed + 1))
+        tell FAILED "$2" "$1: must run under CI: $3"
+    else
+        skipped=$((skipped + 1))
+        skips+=("$1: $3")
+        tell skipped "$2" "$1: $3"
+    fi
+}
+
 # Runs a check for at most LIMIT seconds, and prints its result. TOOLS are what it needs.
 check() { # NAME LIMIT TOOLS COMMAND..
     local name=$1 limit=$2 missing start status=0
@@ -68,10 +91,9 @@ check() { # NAME LIMIT TOOLS COMMAND..
     # Word splitting separates the tools.
     # shellcheck disable=SC2086
     missing=$(lacking $3)
-    if [ -z "$missing" ] && [ $((SECONDS + limit)) -gt $((minutes * 60)) ]; then missing='time left'; fi
+    if [ -z "$missing" ] && [ $((SECONDS + limit)) -gt $((minutes * 60)) ] && ! must_run "$name"; then missing='time left'; fi
     if [ -n "$missing" ]; then
-        skipped=$((skipped + 1))
-        tell skipped 0 "$name: no $missing"
+        skip "$name" 0 "no $missing"
         return
     fi
     start=$SECONDS
@@ -84,17 +106,21 @@ check() { # NAME LIMIT TOOLS COMMAND..
 
 # Prints the result of a check by its status and its output.
 judge() { # NAME SECONDS STATUS LIMIT
+    local part
     if [ "$3" -ne 0 ]; then
         failed=$((failed + 1))
         tell FAILED "$2" "$1: $([ "$3" -eq 124 ] && echo "not ended after $4 s" || echo "status $3")"
         tail -n 40 "$room/output" | sed 's/^/    /'
     elif grep -q '^skipped' "$room/output" && ! grep -qv '^skipped' "$room/output"; then
-        skipped=$((skipped + 1))
-        tell skipped "$2" "$1: $(sed -n '1s/^skipped[: ]*//p' "$room/output")"
+        skip "$1" "$2" "$(sed -n '1s/^skipped[: ]*//p' "$room/output")"
     else
         passed=$((passed + 1))
         tell passed "$2" "$1"
-        grep '^skipped' "$room/output" | sed 's/^/    /'
+        while read -r part; do
+            echo "    $part"
+            part=${part#skipped} part=${part#:}
+            skips+=("$1, in part: ${part# }")
+        done < <(grep '^skipped' "$room/output")
     fi
 }
 
@@ -107,8 +133,9 @@ run_checks() {
     unset S10 S10_LIBRARY LIBRARY BROWSER MAINTAINER SOURCE_DATE_EPOCH PYTHONPATH GIT_DIR GIT_WORK_TREE GIT_INDEX_FILE
     export LC_ALL=C.UTF-8 PYTHONDONTWRITEBYTECODE=1
     cd "$room" || return
+    check front_door 5400 'git rattle make flock' bash "$checks/front_door.sh"
     check counts 300 python3 python3 "$checks/counts.py"
-    check build_log 300 flock bash "$checks/build_log.sh"
+    check build_log 600 'python3 make flock' python3 "$checks/build_log.py"
     check texts 300 'program python3' python3 "$contrib/write_texts.py" --check "$s10"
     check edges 600 'program python3' python3 "$checks/edges.py" "$s10"
     check completions 600 'program python3' env S10="$s10" python3 "$contrib/test_completions.py"
@@ -161,6 +188,7 @@ take_program() {
 main() {
     local status=0 proved=0 unproved=0 start
     local out=$top/crates/s10/out
+    if [ "${CI:-}" = true ] && [ "$(id -u)" = 0 ]; then bash "$top/checks/tools.sh"; fi
     if [ "${1:-}" = --checks ]; then
         [ $# -lt 2 ] || [ -x "$2" ] || { echo "gate: $2 is no program" >&2; return 2; }
         take_program "${2:-$out/s10.by-rattle}" "${2:-$out/s10}"
@@ -171,7 +199,9 @@ main() {
     fi
     start=$SECONDS
     run_checks
-    echo "gate: the checks took $((SECONDS - start)) s: $passed passed, $failed failed, $skipped skipped"
+    echo "gate: the checks took $((SECONDS - start)) s: $passed passed, $failed failed"
+    echo "gate: $skipped checks were skipped, and $((${#skips[@]} - skipped)) parts of others"
+    [ ${#skips[@]} -eq 0 ] || printf 'gate: skipped %s\n' "${skips[@]}"
     echo "$((proved + passed)) passed, $((unproved + failed)) failed"
     [ "$failed" -eq 0 ] || [ "$status" -ne 0 ] || status=1
     return "$status"
