@@ -31,7 +31,7 @@ PROGRAM = Path(sys.argv[1] if len(sys.argv) > 1 else ROOT / "crates/s10/out/s10"
 
 # The commands that are not run: how each begins, `# ` for root, and why.
 NOT_RUN = (
-    ("./s10 ", "builds the program, which takes minutes"),
+    ("./s10 ", "builds the program, which takes minutes; checks/front_door.sh does"),
     (".ci/run", "proves and tests everything, which takes an hour"),
     ("python3 contrib/write_texts.py", "writes into the repository"),
     ("# install", "root and systemd"),
