@@ -6,8 +6,8 @@
 
 Without --csv, `s10 report --snapshot --csv`, also with `--issues`, gives the records; PROGRAM is `s10` on the PATH if it is not
 given. A server may serve the ledger meanwhile. The page needs no network and has no script. The last thirty days are
-those up to the day of the report of the ranges. A customer's serials run out on the day on which the free serials of its open
-ranges end, if it goes on to draw as many each day as in those thirty days.
+those up to the day of the report of the ranges. A stock is the free serials of one customer, service and country. It runs out
+on the day on which it ends, if the customer goes on to draw as many from it each day as in those thirty days.
 """
 
 import argparse
@@ -18,7 +18,7 @@ import io
 import math
 import subprocess
 import sys
-from collections import Counter, defaultdict
+from collections import Counter
 from pathlib import Path
 
 RANGES = "range,customer,service,country,first,last,used,voided,free,closed,day,date".split(",")
@@ -80,19 +80,24 @@ def date_of(day):
 
 
 def run_out(free, drawn, day):
-    """Returns the day on which `free` serials end at `drawn` in the last days up to `day`; none if nothing is drawn."""
+    """Returns the day on which `free` serials end at `drawn` in the last days up to `day`; none if they do not."""
+    if not free:
+        return day
     return day + math.ceil(free * RECENT / drawn) if drawn else None
 
 
-def customers(ranges, issues, day):
-    """Returns for each customer its free serials, how many it drew in the last days, and when they run out."""
-    free, drawn = defaultdict(int), Counter()
+def stocks(ranges, issues, day):
+    """Returns each stock: customer, service with country, free serials, how many were drawn in the last days, and when it runs
+    out. The first to run out is the first. Only open ranges count, and stocks that have none if something was drawn."""
+    free, drawn = Counter(), Counter()
     for row in ranges:
-        free[int(row["customer"])] += int(row["free"]) if row["closed"] == "no" else 0
+        if row["closed"] == "no":
+            free[int(row["customer"]), f'{row["service"]} {row["country"]}'] += int(row["free"])
     for row in issues:
         if day - RECENT < int(row["day"]) <= day:
-            drawn[int(row["customer"])] += 1
-    return [(one, free[one], drawn[one], run_out(free[one], drawn[one], day)) for one in sorted(set(free) | set(drawn))]
+            drawn[int(row["customer"]), f'{row["identifier"][:2]} {row["identifier"][-2:]}'] += 1
+    found = [(*one, free[one], drawn[one], run_out(free[one], drawn[one], day)) for one in set(free) | set(drawn)]
+    return sorted(found, key=lambda one: (math.inf if one[-1] is None else one[-1], one))
 
 
 def bar(row):
@@ -121,14 +126,16 @@ def range_rows(ranges):
         yield (int(row["range"]), int(row["customer"]), name, span, bar(row), int(row["used"]), int(row["voided"]), free)
 
 
-def customer_rows(found, day):
-    """Returns the cells of each customer."""
-    for customer, free, drawn, end in found:
+def stock_rows(found, day):
+    """Returns the cells of each stock."""
+    for customer, service, free, drawn, end in found:
         if end is None:
             when = '<span class="quiet">nothing drawn</span>'
+        elif not free:
+            when = '<span class="soon">none free</span>'
         else:
             when = f'<span class="soon">{date_of(end)}</span>' if end - day <= RECENT else date_of(end)
-        yield customer, free, drawn, f"{drawn / RECENT:.1f}", when
+        yield customer, html.escape(service), free, drawn, f"{drawn / RECENT:.1f}", when
 
 
 def plot(issues, day):
@@ -161,8 +168,7 @@ def page(ranges, issues, title):
     key = ('<p class="key"><span class="used"></span>used<span class="voided"></span>void'
            '<span class="free"></span>never issued</p>')
     names = ["range", "customer", "service", "serials", "", "used", "void", "free"]
-    people = ["customer", "free", f"drawn in {RECENT} days", "a day", "run out"]
-    found = customers(ranges, issues, day)
+    left = ["customer", "service", "free", f"drawn in {RECENT} days", "a day", "run out"]
     return f"""<!DOCTYPE html>
 <html lang="en">
 <head>
@@ -177,9 +183,9 @@ def page(ranges, issues, title):
 <h2>Ranges</h2>
 {key}
 {table(names, range_rows(ranges), ("used", "void", "free"))}
-<h2>Customers</h2>
-<p>The serials of a customer run out on this day if it goes on as in the last {RECENT} days.</p>
-{table(people, customer_rows(found, day), people[1:4])}
+<h2>When serials run out</h2>
+<p>The free serials of a service and country run out on this day if the customer goes on as in the last {RECENT} days.</p>
+{table(left, stock_rows(stocks(ranges, issues, day), day), left[2:5])}
 <h2>Identifiers issued by day</h2>
 {plot(issues, day)}
 </body>

@@ -27,16 +27,37 @@ RANGES = (
     "2,7,RA,GB,00000100,00000199,0,0,100,yes,20030,2024-11-03\r\n"
     "3,8,EE,DE,00000000,00000009,0,0,10,no,20030,2024-11-03\r\n"
 )
-HEADINGS = "arrival,day,date,customer,number,identifier,range,state\r\n"
+RANGE_HEADINGS, HEADINGS = RANGES.split("\r\n")[0] + "\r\n", "arrival,day,date,customer,number,identifier,range,state\r\n"
 
 
-def issue(arrival, day):
-    """Returns the record of an issue by customer 7."""
-    return f"{arrival},{day},{ledger_page.date_of(day)},7,{arrival},RA000000005GB,1,issued\r\n"
+def issue(arrival, day, customer=7, identifier="RA000000005GB"):
+    """Returns the record of an issue."""
+    return f"{arrival},{day},{ledger_page.date_of(day)},{customer},{arrival},{identifier},1,issued\r\n"
 
 
 # Thirty on day 19990, which is past the last thirty days; thirty on the two days at their ends.
 ISSUES = HEADINGS + "".join(issue(at, 19990 if at < 30 else 20001 if at < 45 else 20030) for at in range(60))
+
+# Customer 7 has 10 of RA GB left at 10 a day, and a million of CP GB at 10 a day. Of RA DE it drew the last one today, and of
+# EE GB nothing. Customer 8 used its range of UA GB long ago, and the one of CP GB was withdrawn after a draw; that of EE GB was
+# withdrawn before any.
+MANY_RANGES = RANGE_HEADINGS + "".join(
+    f"{number},{customer},{service},{country},00000000,{last:08d},{last + 1 - free},0,{free},{closed},20030,2024-11-03\r\n"
+    for number, (customer, service, country, last, free, closed) in enumerate((
+        (7, "RA", "GB", 309, 10, "no"),
+        (7, "CP", "GB", 1000299, 1000000, "no"),
+        (7, "EE", "GB", 99, 60, "no"),
+        (7, "EE", "GB", 39, 40, "no"),
+        (7, "RA", "DE", 0, 0, "no"),
+        (8, "UA", "GB", 9, 0, "no"),
+        (8, "CP", "GB", 9, 9, "yes"),
+        (8, "EE", "GB", 9, 10, "yes"),
+    ), 1)
+)
+MANY_ISSUES = HEADINGS + "".join(
+    [issue(at, 20001 + at % 30, 7, "RA000000005GB" if at < 300 else "CP000000005GB") for at in range(600)]
+    + [issue(600, 20030, 7, "RA000000005DE"), issue(601, 20030, 8, "CP000000005GB")]
+)
 
 
 class Shape(html.parser.HTMLParser):
@@ -69,12 +90,23 @@ def parts():
 
 
 class Numbers(unittest.TestCase):
-    def test_customers(self):
+    def test_stocks(self):
         # Customer 7 drew 30 in the last 30 days, one a day, and has 40 free in its open range.
-        self.assertEqual([(7, 40, 30, 20070), (8, 10, 0, None)], ledger_page.customers(*parts(), 20030))
+        self.assertEqual([(7, "RA GB", 40, 30, 20070), (8, "EE DE", 10, 0, None)], ledger_page.stocks(*parts(), 20030))
+
+    def test_many_services(self):
+        many = ledger_page.records(MANY_RANGES, ledger_page.RANGES), ledger_page.records(MANY_ISSUES, ledger_page.ISSUES)
+        self.assertEqual([
+            (7, "RA DE", 0, 1, 20030),
+            (8, "CP GB", 0, 1, 20030),
+            (8, "UA GB", 0, 0, 20030),
+            (7, "RA GB", 10, 300, 20031),
+            (7, "CP GB", 1000000, 300, 120030),
+            (7, "EE GB", 100, 0, None),
+        ], ledger_page.stocks(*many, 20030))
 
     def test_run_out(self):
-        for free, drawn, day in ((0, 5, 100), (1, 30, 101), (1, 60, 101), (3, 60, 102), (10, 1, 400)):
+        for free, drawn, day in ((0, 5, 100), (0, 0, 100), (1, 30, 101), (1, 60, 101), (3, 60, 102), (10, 1, 400), (1, 0, None)):
             self.assertEqual(day, ledger_page.run_out(free, drawn, 100))
 
     def test_dates(self):
@@ -99,7 +131,9 @@ class Page(unittest.TestCase):
         self.assertEqual(3 + 2 + 2, shape.count["tr"])
         self.assertIn("60 of 100 used, 6 void", text)
         self.assertIn('width:54.00%', text)
-        self.assertIn("2024-12-13", text)
+        # The stocks, by the day on which they run out.
+        below = text[text.index("<h2>When serials run out</h2>"):]
+        self.assertLess(below.index("2024-12-13"), below.index("nothing drawn"))
         self.assertIn("Ledger &lt;x&gt;", text)
         self.assertIn("prefers-color-scheme: dark", text)
 
