@@ -40,6 +40,7 @@ NOT_RUN = (
     ("# ps ", "root and systemd"),
     ("# s10 draw", "root and systemd"),
     ("# kill", "root and systemd"),
+    ("# journalctl", "root and systemd"),
     ("systemd-analyze", "systemd"),
     ("journalctl", "systemd"),
     ("tshark", "tshark, which captures packets as root"),

@@ -5,7 +5,8 @@
 #
 # The package is built where git knows no name: it must have a maintainer, be the same byte for byte when it is built again, and
 # have each page that its pages name. Then the commands of the unit, which start and stop the server, are run without systemd, with
-# the program in each folder that a page installs it into. A tool that the machine lacks is named, and what needs it is skipped.
+# the program in each folder that a page installs it into. As root, its look at the owners of files is run as another user. A tool
+# that the machine lacks is named, and what needs it is skipped.
 set -eu -o pipefail
 
 top=$(readlink -f "$(dirname "$(readlink -f "${BASH_SOURCE[0]}")")/..")
@@ -57,7 +58,7 @@ fi
 # Prints a command of the unit, in which its folder for a run is below a folder of ours.
 unit=$top/contrib/s10.service
 command_of() { # NAME
-    sed -n "s/^$1=//p" "$unit" | sed 's/\$\$/$/g' | sed "s|/run/s10/|$dir/run/|g"
+    sed -n "s/^$1=//p" "$unit" | sed 's/\$\$/$/g; s/%%/%/g' | sed "s|/run/s10/|$dir/run/|g"
 }
 
 # Starts the server by the command of the unit, with its settings, in which the folders of programs are below a folder of ours.
@@ -69,6 +70,12 @@ unit() { # SETTING..
     # Word splitting separates the settings.
     # shellcheck disable=SC2086
     (cd "$dir/state" && exec env -i $settings "$@" bash -c "$(command_of ExecStart)" 2>"$dir/words") || echo "status $?"
+}
+
+# Runs the unit's look at the owners of its files, as the user whom `as` names. Prints its line, and its status if that is not 0.
+as=()
+look() {
+    (cd "$dir/state" && exec env -i PATH="$PATH" USER=s10 "${as[@]}" bash -c "$(command_of ExecStartPre)" 2>&1) || echo "status $?"
 }
 
 # Starts the server, and stops it by the command of the unit once it serves. Prints its lines, and its status if that is not 0.
@@ -109,4 +116,25 @@ came=$(unit S10_DAYS_AHEAD=none)
 [ "$came" = 'status 2' ] || fail "the unit prints $came without days"
 came=$(unit S10_BIND=127.0.0.1:0)
 [ "$came" = "$(printf 'refused until\nstatus 1')" ] || fail "the unit prints $came after a stop whose file is still there"
+[ -z "$(look)" ] || fail "the unit prints $(look) with a ledger of its own user"
+
+# Root's files, in a folder that the user of the server may enter.
+if [ "$(id -u)" != 0 ]; then
+    echo 'skipped: no root'
+elif have setpriv; then
+    as=(setpriv --reuid=65534 --regid=65534 --clear-groups)
+    chmod 711 "$dir"
+    rm -f "$dir/state/ledger"*
+    [ -z "$(look)" ] || fail "the unit prints $(look) without a ledger"
+    for file in ledger-wal ledger; do
+        (umask 077 && : >"$dir/state/$file")
+        came=$(look)
+        [ "$came" = "$(printf '%s: the owner is root, the server runs as s10\nstatus 3' $file)" ] || fail "the unit prints $came for root's $file"
+    done
+    chown 65534 "$dir/state/ledger"*
+    [ -z "$(look)" ] || fail "the unit prints $(look) with a ledger of its own user"
+fi
+# A unit without a limit of starts tries for ever.
+grep -q '^StartLimitIntervalSec=[1-9]' "$unit" || fail 'the unit has no time for a limit of starts'
+grep -q '^StartLimitBurst=[1-9]' "$unit" || fail 'the unit has no limit of starts'
 echo 'ok: the commands of the unit'
