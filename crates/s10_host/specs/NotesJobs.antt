@@ -13,7 +13,7 @@ use Rattle.s10_notes.specs.declared.notes_fault.NotesFault.{NotesFault}
 use Rattle.s10_notes.specs.declared.notes_file.NotesFile.{NotesFile}
 use Rattle.s10_notes.specs.Notes.{NotesState, new_notes, take_fault}
 use Rattle.s10_notes.specs.HostFolder.{HostFolderState}
-use Rattle.s10_notes.specs.NotesFile.{may_spell, ReadsNotes, WritesNotes}
+use Rattle.s10_notes.specs.NotesFile.{may_spell, IsWrittenNew, ReadsNotes, WritesNotes}
 use Rattle.s10_jobs.specs.declared.job_status.JobStatus.{JobStatus}
 use Rattle.s10_jobs.specs.declared.job_status.JobStatus.TheVariants.{Refused, Failed}
 use Rattle.s10_jobs.specs.declared.refusal.Refusal.{Refusal}
@@ -42,10 +42,11 @@ pub record IsOpenedAt (path : List ℕ) (file : OpenNotes) : Type 0 where
   pub at : file.folder.path ≡ path
   pub read : ReadsNotes [] file.folder.calls file.held
 
--- The new notes were written to a new file at the path.
+-- The new notes were written to a new file at the path, where no file was.
 pub record IsNewAt (path : List ℕ) (notes : NotesState) (file : OpenNotes) : Type 0 where
   pub at : file.folder.path ≡ path
   pub held : file.held ≡ notes
+  pub new : IsWrittenNew [] file.folder.calls
   pub written : WritesNotes [] file.folder.calls notes (Ok tt)
 
 -- New notes were written, and then `created` was printed. Or the line says why there are none: they

@@ -54,7 +54,10 @@ fn new_notes<'a>(
 ) -> Result<NotesFile<HostFolder<'a>>, NotesFault>
     ensures { IfOk result (IsNewAt path.now notes.now) }
 {
-    NotesFile::create(HostFolder::create(rt, path)?, notes)
+    match NotesFile::create(HostFolder::create(rt, path)?, notes) {
+        Ok(file) => Ok(file),
+        Err(refusal) => Err(refusal.fault),
+    }
 }
 
 // Opens the notes at the path.
@@ -64,7 +67,10 @@ fn open_notes<'a>(
 ) -> Result<NotesFile<HostFolder<'a>>, NotesFault>
     ensures { IfOk result (IsOpenedAt path.now) }
 {
-    NotesFile::open(HostFolder::open(rt, path)?)
+    match NotesFile::open(HostFolder::open(rt, path)?) {
+        Ok(file) => Ok(file),
+        Err(refusal) => Err(refusal.fault),
+    }
 }
 
 /// Asks the open request of notes again, over a socket of its own. An address that cannot be read is

@@ -10,8 +10,8 @@ use Rattle.s10_lines.specs.Lines.{line_of}
 use Rattle.s10_link.specs.declared.trace.Trace.{Trace}
 use Rattle.s10_link.specs.declared.peer.Peer.{Peer}
 use Rattle.s10_notes.specs.declared.notes_fault.NotesFault.{NotesFault}
-use Rattle.s10_notes.specs.declared.notes_fault.NotesFault.TheVariants.{Taken, Missing, Locked}
-use Rattle.s10_notes.specs.declared.notes_fault.NotesFault.TheVariants.{Damaged, Store}
+use Rattle.s10_notes.specs.declared.notes_fault.NotesFault.TheVariants.{Taken, Missing, Linked}
+use Rattle.s10_notes.specs.declared.notes_fault.NotesFault.TheVariants.{Locked, Damaged, Store}
 use Rattle.s10_notes.specs.declared.take_fault.TakeFault.{TakeFault}
 use Rattle.s10_notes.specs.declared.take_fault.TakeFault.TheVariants.{Unanswered, NumbersSpent}
 use Rattle.s10_notes.specs.Notes.{NotesState, next_request, after_take, without_request}
@@ -29,6 +29,7 @@ use Rattle.s10_jobs.specs.Lines.{refused_line}
 abbrev pub notes_fault_words : NotesFault → List (List ℕ)
 notes_fault_words Taken = codes "taken" ∷ []
 notes_fault_words Missing = codes "missing" ∷ []
+notes_fault_words Linked = codes "linked" ∷ []
 notes_fault_words Locked = codes "locked" ∷ []
 notes_fault_words Damaged = codes "damaged" ∷ []
 notes_fault_words Store = codes "store" ∷ []

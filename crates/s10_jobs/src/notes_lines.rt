@@ -51,6 +51,7 @@ fn write_notes_word<W: Write>(fault: NotesFault, out: &mut W) -> Result<(), Writ
     match fault {
         NotesFault::Taken => write_word(b"taken", out),
         NotesFault::Missing => write_word(b"missing", out),
+        NotesFault::Linked => write_word(b"linked", out),
         NotesFault::Locked => write_word(b"locked", out),
         NotesFault::Damaged => write_word(b"damaged", out),
         NotesFault::Store => write_word(b"store", out),

@@ -3,3 +3,4 @@ pub mod Numerals
 pub mod Digits
 pub mod Lived
 pub mod Replaced
+pub mod Refused

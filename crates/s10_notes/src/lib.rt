@@ -4,8 +4,10 @@
 
 mod folder;
 mod folder_call;
+mod folder_refusal;
 mod host_folder;
 mod laws;
+mod names;
 mod notebook;
 mod notes;
 mod notes_fault;
@@ -16,8 +18,10 @@ mod writing;
 
 pub use folder::Folder;
 pub use folder_call::{FolderCall, Text};
+pub use folder_refusal::FolderRefusal;
 pub use host_folder::HostFolder;
 pub use laws::numbers_are_used_once;
+pub use names::Names;
 pub use notebook::Notebook;
 pub use notes::Notes;
 pub use notes_fault::NotesFault;

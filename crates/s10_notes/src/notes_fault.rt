@@ -9,6 +9,9 @@ pub enum NotesFault {
     /// No file is at the path.
     #[error("missing")]
     Missing,
+    /// The file has another name too: a hard link.
+    #[error("linked")]
+    Linked,
     /// Another client has the notes open.
     #[error("locked")]
     Locked,

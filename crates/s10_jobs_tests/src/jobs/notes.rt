@@ -4,7 +4,7 @@ use crate::jobs::stopping_folder::{Stop, StoppingFolder};
 use crate::links::{Meets, link_of};
 use s10_jobs::{JobStatus, Tries, ask_again, ask_by_notes};
 use s10_link::Peer;
-use s10_notes::{Notes, NotesFault, NotesFile};
+use s10_notes::{Names, Notebook, Notes, NotesFault, NotesFile};
 use s10_test_help::asked::Asked;
 use s10_test_help::datagrams::DRAWN;
 use s10_test_help::expect::{holds, is_text};
@@ -32,7 +32,7 @@ const ANSWERED: &str = "{\"customer\": 7, \"next\": 2, \"last\": 9, \"request\":
 const SPENT: &str = "{\"customer\": 7, \"next\": 10, \"last\": 9, \"request\": null}\n";
 
 /// The calls of an opening.
-const OPENING: u32 = 2;
+const OPENING: u32 = 3;
 
 /// A draw by notes, or the open request again.
 #[derive(Clone, Copy, Debug)]
@@ -57,7 +57,7 @@ struct Case {
 const ASKED: Case = Case {
     is_draw: true,
     notes: NEW,
-    left: 10,
+    left: 12,
     does_last: false,
     is_answered: true,
     sends: 1,
@@ -87,15 +87,10 @@ const UNRECORDED: Case = Case {
 };
 
 const STOPS: &[Case] = &[
-    // At the calls that write the request down: the file beside is emptied, written, synced and
-    // renamed, and the names are synced. A name that is not synced is found only if the machine
-    // goes on.
+    // At the calls that write the request down: the names are counted, the file beside is emptied,
+    // written, synced and renamed, and the names are synced. A name that is not synced is found only
+    // if the machine goes on.
     Case { left: 0, ..UNSENT },
-    Case {
-        left: 0,
-        does_last: true,
-        ..UNSENT
-    },
     Case { left: 1, ..UNSENT },
     Case {
         left: 1,
@@ -112,31 +107,28 @@ const STOPS: &[Case] = &[
     Case {
         left: 3,
         does_last: true,
+        ..UNSENT
+    },
+    Case { left: 4, ..UNSENT },
+    Case {
+        left: 4,
+        does_last: true,
         shown: OPEN,
         ..UNSENT
     },
     Case {
-        left: 4,
+        left: 5,
         shown: OPEN,
         ..UNSENT
     },
     Case {
-        left: 4,
+        left: 5,
         does_last: true,
         shown: OPEN,
         kept: OPEN,
         ..UNSENT
     },
     // At those that record the reply.
-    Case {
-        left: 5,
-        ..UNRECORDED
-    },
-    Case {
-        left: 5,
-        does_last: true,
-        ..UNRECORDED
-    },
     Case {
         left: 6,
         ..UNRECORDED
@@ -146,22 +138,35 @@ const STOPS: &[Case] = &[
         ..UNRECORDED
     },
     Case {
-        left: 8,
+        left: 7,
+        does_last: true,
         ..UNRECORDED
     },
     Case {
         left: 8,
+        ..UNRECORDED
+    },
+    Case {
+        left: 9,
+        ..UNRECORDED
+    },
+    Case {
+        left: 10,
+        ..UNRECORDED
+    },
+    Case {
+        left: 10,
         does_last: true,
         shown: ANSWERED,
         ..UNRECORDED
     },
     Case {
-        left: 9,
+        left: 11,
         shown: ANSWERED,
         ..UNRECORDED
     },
     Case {
-        left: 9,
+        left: 11,
         does_last: true,
         shown: ANSWERED,
         kept: ANSWERED,
@@ -224,7 +229,7 @@ fn leaves(folder: &StoppingFolder, shown: &str, kept: &str) -> bool {
 /// Returns whether a case sends, prints and leaves what it says.
 fn is_as_listed(alloc: Global, case: &Case) -> bool {
     let left = OPENING.saturating_add(case.left);
-    let folder = StoppingFolder::new(case.notes.as_bytes(), left, case.does_last);
+    let folder = StoppingFolder::new(Names::One, case.notes.as_bytes(), left, case.does_last);
     let Ok(mut notes) = NotesFile::open(folder) else {
         return false;
     };
@@ -264,19 +269,43 @@ fn a_request_by_notes_is_asked_or_refused(rt: HostRuntime) {
     }
 }
 
-/// Returns whether notes with this text cannot be opened, if the folder stops after these calls.
-fn is_unopened(text: &str, left: u32, fault: NotesFault) -> bool {
-    match NotesFile::open(StoppingFolder::new(text.as_bytes(), left, true)) {
+/// Returns whether notes with this text and these names cannot be opened, if the folder stops after
+/// these calls.
+fn is_unopened(names: Names, text: &str, left: u32, fault: NotesFault) -> bool {
+    match NotesFile::open(StoppingFolder::new(names, text.as_bytes(), left, true)) {
         Ok(_) => false,
-        Err(found) => found == fault,
+        Err(refusal) => refusal.fault == fault,
     }
 }
 
 #[test]
-fn notes_are_opened_only_after_their_names_are_synced(rt: HostRuntime) {
-    assert!(rt; is_unopened(NEW, 0, NotesFault::Store));
-    assert!(rt; is_unopened(NEW, 1, NotesFault::Store));
-    assert!(rt; is_unopened("", OPENING, NotesFault::Damaged));
+fn notes_are_opened_only_after_their_names_are_counted_and_synced(rt: HostRuntime) {
+    assert!(rt; is_unopened(Names::One, NEW, 0, NotesFault::Store));
+    assert!(rt; is_unopened(Names::One, NEW, 1, NotesFault::Store));
+    assert!(rt; is_unopened(Names::One, NEW, 2, NotesFault::Store));
+    assert!(rt; is_unopened(Names::One, "", OPENING, NotesFault::Damaged));
+    assert!(rt; is_unopened(Names::Zero, "", OPENING, NotesFault::Missing));
+    assert!(rt; is_unopened(Names::More, NEW, OPENING, NotesFault::Linked));
+}
+
+/// Returns whether notes that were opened with one name are not replaced when they have these names.
+fn is_kept(names: Names, fault: NotesFault) -> bool {
+    let folder = StoppingFolder::new(Names::One, NEW.as_bytes(), 99, false);
+    let Ok(mut file) = NotesFile::open(folder) else {
+        return false;
+    };
+    file.folder.set_names(names);
+    let is_refused = match Notes::new(7, 5, 9) {
+        Some(notes) => file.replace(&notes) == Err(fault),
+        None => false,
+    };
+    is_refused && leaves(&file.folder, NEW, NEW)
+}
+
+#[test]
+fn notes_with_another_name_are_not_replaced(rt: HostRuntime) {
+    assert!(rt; is_kept(Names::More, NotesFault::Linked));
+    assert!(rt; is_kept(Names::Zero, NotesFault::Missing));
 }
 
 /// Returns whether new notes leave these texts, if the folder stops after these calls.
@@ -284,14 +313,38 @@ fn are_created(left: u32, shown: &str, kept: &str) -> bool {
     let Some(notes) = Notes::new(7, 1, 9) else {
         return false;
     };
-    match NotesFile::create(StoppingFolder::new(b"", left, false), &notes) {
-        Ok(file) => left >= 5 && leaves(&file.folder, shown, kept),
-        Err(fault) => left < 5 && fault == NotesFault::Store,
+    match NotesFile::create(StoppingFolder::new(Names::Zero, b"", left, false), &notes) {
+        Ok(file) => left >= 6 && leaves(&file.folder, shown, kept),
+        Err(refusal) => {
+            left < 6 && refusal.fault == NotesFault::Store && leaves(&refusal.folder, shown, kept)
+        }
     }
 }
 
 #[test]
 fn new_notes_are_on_disk(rt: HostRuntime) {
+    assert!(rt; are_created(0, "", ""));
     assert!(rt; are_created(4, "", ""));
-    assert!(rt; are_created(5, NEW, NEW));
+    assert!(rt; are_created(5, NEW, ""));
+    assert!(rt; are_created(6, NEW, NEW));
+}
+
+/// Returns whether new notes are refused, and the file at their path stays.
+fn is_taken(names: Names) -> bool {
+    let Some(notes) = Notes::new(7, 5, 9) else {
+        return false;
+    };
+    match NotesFile::create(
+        StoppingFolder::new(names, NEW.as_bytes(), 99, false),
+        &notes,
+    ) {
+        Ok(_) => false,
+        Err(refusal) => refusal.fault == NotesFault::Taken && leaves(&refusal.folder, NEW, NEW),
+    }
+}
+
+#[test]
+fn new_notes_replace_no_file(rt: HostRuntime) {
+    assert!(rt; is_taken(Names::One));
+    assert!(rt; is_taken(Names::More));
 }

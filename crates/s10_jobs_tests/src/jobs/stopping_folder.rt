@@ -1,9 +1,9 @@
 //! A folder of notes in memory that stops at one of its calls.
 
-ghost use Rattle.std.specs.Prelude.{◌≡◌, ◌∷◌, IfSome, reverse};
+ghost use Rattle.std.specs.Prelude.{◌≡◌, ◌∷◌, reverse};
 
 use http_server::Log;
-use s10_notes::{Folder, FolderCall, NotesFault, Text};
+use s10_notes::{Folder, FolderCall, Names, NotesFault, Text};
 
 /// What becomes of a call.
 #[derive(Clone, Copy, PartialEq, Eq)]
@@ -28,6 +28,7 @@ pub(crate) enum Stop {
 /// nevertheless if `does_last`.
 #[derive(Drop)]
 pub(crate) struct StoppingFolder {
+    names: Names,
     // What the notes' file holds, and what of that is on disk.
     shown: Text,
     shown_synced: Text,
@@ -42,9 +43,7 @@ pub(crate) struct StoppingFolder {
 }
 
 /// Returns a text of these bytes, or `None` if they are too many.
-fn read_text(bytes: &[u8]) -> Option<Text>
-    ensures { IfSome result (λ text. text.items ≡ bytes.now) }
-{
+fn read_text(bytes: &[u8]) -> Option<Text> {
     let mut text = Text::new();
     match text.try_extend_from_slice(bytes) {
         Ok(()) => Some(text),
@@ -68,8 +67,9 @@ fn result_of(fate: Fate) -> Result<(), NotesFault> {
 }
 
 impl StoppingFolder {
-    pub(crate) fn new(notes: &[u8], left: u32, does_last: bool) -> StoppingFolder {
+    pub(crate) fn new(names: Names, notes: &[u8], left: u32, does_last: bool) -> StoppingFolder {
         StoppingFolder {
+            names,
             shown: text_of(notes),
             shown_synced: text_of(notes),
             kept: text_of(notes),
@@ -79,6 +79,11 @@ impl StoppingFolder {
             does_last,
             log: Log::new(),
         }
+    }
+
+    /// Gives the notes' file other names.
+    pub(crate) fn set_names(&mut self, names: Names) {
+        self.names = names;
     }
 
     /// Returns the text that the notes' file has after a stop.
@@ -103,10 +108,10 @@ impl StoppingFolder {
         Fate::Fails
     }
 
-    fn log_call(&mut self, call: FolderCall, done: bool)
-        ensures { reverse self.new.log.items ≡ (call, done) ∷ reverse self.old.log.items }
+    fn log_call(&mut self, call: &FolderCall, done: bool)
+        ensures { reverse self.new.log.items ≡ (call.now, done) ∷ reverse self.old.log.items }
     {
-        self.log = self.log.and(&call, &done);
+        self.log = self.log.and(call, &done);
     }
 }
 
@@ -117,6 +122,16 @@ impl Folder for StoppingFolder {
 
     ghost calls = { λ f. reverse f.log.items };
 
+    fn names(&mut self) -> Result<Names, NotesFault> {
+        if self.next_fate() != Fate::Succeeds {
+            self.log_call(&FolderCall::Names(Names::Zero), false);
+            return Err(NotesFault::Store);
+        }
+        let names = self.names;
+        self.log_call(&FolderCall::Names(names), true);
+        Ok(names)
+    }
+
     fn empty_beside(&mut self) -> Result<(), NotesFault> {
         let fate = self.next_fate();
         if fate != Fate::Fails {
@@ -124,7 +139,7 @@ impl Folder for StoppingFolder {
             self.beside_synced = Text::new();
         }
         let emptied = result_of(fate);
-        self.log_call(FolderCall::Empty, emptied.is_ok());
+        self.log_call(&FolderCall::Empty, emptied.is_ok());
         emptied
     }
 
@@ -134,7 +149,7 @@ impl Folder for StoppingFolder {
             self.beside = text_of(text.as_slice());
         }
         let appended = result_of(fate);
-        self.log_call(FolderCall::Append(text), appended.is_ok());
+        self.log_call(&FolderCall::Append(text), appended.is_ok());
         appended
     }
 
@@ -144,18 +159,19 @@ impl Folder for StoppingFolder {
             self.beside_synced = text_of(self.beside.as_slice());
         }
         let synced = result_of(fate);
-        self.log_call(FolderCall::Sync, synced.is_ok());
+        self.log_call(&FolderCall::Sync, synced.is_ok());
         synced
     }
 
     fn rename_beside(&mut self) -> Result<(), NotesFault> {
         let fate = self.next_fate();
         if fate != Fate::Fails {
+            self.names = Names::One;
             self.shown = text_of(self.beside.as_slice());
             self.shown_synced = text_of(self.beside_synced.as_slice());
         }
         let renamed = result_of(fate);
-        self.log_call(FolderCall::Rename, renamed.is_ok());
+        self.log_call(&FolderCall::Rename, renamed.is_ok());
         renamed
     }
 
@@ -165,23 +181,21 @@ impl Folder for StoppingFolder {
             self.kept = text_of(self.shown_synced.as_slice());
         }
         let synced = result_of(fate);
-        self.log_call(FolderCall::SyncFolder, synced.is_ok());
+        self.log_call(&FolderCall::SyncFolder, synced.is_ok());
         synced
     }
 
-    fn read(&mut self) -> Result<Text, NotesFault> {
+    fn read(&mut self) -> Result<Option<Text>, NotesFault> {
         if self.next_fate() != Fate::Succeeds {
+            self.log_call(&FolderCall::Read(None), false);
             return Err(NotesFault::Store);
         }
         self.shown_synced = text_of(self.shown.as_slice());
-        let shown = self.shown.as_slice();
-        let Some(logged) = read_text(shown) else {
-            return Err(NotesFault::Damaged);
-        };
-        let Some(text) = read_text(shown) else {
-            return Err(NotesFault::Damaged);
-        };
-        self.log_call(FolderCall::Read(logged), true);
-        Ok(text)
+        let read = FolderCall::Read(read_text(self.shown.as_slice()));
+        self.log_call(&read, true);
+        match read {
+            FolderCall::Read(text) => Ok(text),
+            _ => unreachable!(),
+        }
     }
 }

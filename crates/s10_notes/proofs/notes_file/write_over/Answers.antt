@@ -12,7 +12,7 @@ returns-in_err-rename_beside-clause-written g c =
     c.from_residual-in_err-rename_beside.ensures.0
     (renamed false text n old (g.F.Folder.calls c.sync_beside.new.self) new
     (spells_only c.new-text.result.items text.items n c.new-text.ensures c.in-Ok.ensures.written
-    c.in-Ok.ensures.spelled (rw c.as_slice.ensures.value at c.text_spells_one.ensures))
+    c.in-Ok.ensures.spelled (rw c.as_slice.ensures.value at c.text_spells_one.ensures)) c.requires
     (are_beside text _ _ _ _ c.in_ok-empty_beside.ensures.made c.in_ok-append_beside.ensures.made
     c.in_ok-sync_beside.ensures.made)
     c.in_err-rename_beside.ensures.made)
@@ -25,7 +25,7 @@ returns-clause-written g c =
     (g.F.Folder.calls c.sync_beside.new.self) (g.F.Folder.calls c.rename_beside.new.self)
     (g.F.Folder.calls c.sync.new.self)
     (spells_only c.new-text.result.items text.items n c.new-text.ensures c.in-Ok.ensures.written
-    c.in-Ok.ensures.spelled (rw c.as_slice.ensures.value at c.text_spells_one.ensures))
+    c.in-Ok.ensures.spelled (rw c.as_slice.ensures.value at c.text_spells_one.ensures)) c.requires
     (are_beside text _ _ _ _ c.in_ok-empty_beside.ensures.made c.in_ok-append_beside.ensures.made
     c.in_ok-sync_beside.ensures.made)
     c.in_ok-rename_beside.ensures.made c.sync.ensures.made
