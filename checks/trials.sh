@@ -378,7 +378,8 @@ address=127.0.0.1:0
 unanswered 3 'link send' "cannot ask $address: Invalid argument (os error 22)"
 address=$silent
 
-# Notes that are new, taken, missing, without an open request, with one while no server is at the address, and damaged.
+# Notes that are new, taken, missing, without an open request, with one while no server is at the address, with a hard link, and
+# damaged.
 group notes
 notes() { # STATUS LINE CHANGES FILE
     tries "$1" "$2" '' "$3" notes --file "$4" --customer 7 --first 1 --last 9
@@ -400,6 +401,15 @@ ask_by_notes 3 gave-up '~printer 85' printer
 ask_by_notes 1 'refused unanswered' '' printer
 echo '{"customer": 7, "next": 2, "last": 9, "request": "53310102000000070000000152414742"}' >printer
 again 3 gave-up '' printer
+ln printer other
+again 3 'notes linked' '' printer
+ask_by_notes 3 'notes linked' '+other.lock 0' other
+notes 3 'notes taken' '' other
+rm other*
+ln -s printer other
+again 3 gave-up '' other
+notes 3 'notes taken' '' other
+rm other
 echo '{}' >printer
 again 3 'notes damaged' '' printer
 

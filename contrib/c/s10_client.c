@@ -1,5 +1,5 @@
 #define _POSIX_C_SOURCE 200809L
-#define _DEFAULT_SOURCE /* flock */
+#define _DEFAULT_SOURCE /* flock, realpath */
 #include "s10_client.h"
 #include <arpa/inet.h>
 #include <errno.h>
@@ -11,10 +11,49 @@
 #include <string.h>
 #include <sys/file.h>
 #include <sys/socket.h>
+#include <sys/stat.h>
 #include <time.h>
 #include <unistd.h>
 
-enum { MAX_NOTES = 256 };
+enum { MAX_NOTES = 256, MAX_PATH = sizeof((struct s10_session *)0)->path };
+
+/* Closes a file, and keeps errno. */
+static void close_file(int *fd) {
+    int cause = errno;
+    if (*fd >= 0) close(*fd);
+    *fd = -1;
+    errno = cause;
+}
+
+/* The path of a file beside the notes. */
+static const char *path_beside(char beside[MAX_PATH + 8], const char *path, const char *end) {
+    snprintf(beside, MAX_PATH + 8, "%s%s", path, end);
+    return beside;
+}
+
+/* Opens and locks a file. Another that is no regular file is refused: to open a pipe could wait. */
+static int open_locked(const char *path, int flags, mode_t mode) {
+    struct stat found;
+    if (stat(path, &found) == 0 && !S_ISREG(found.st_mode)) return errno = EINVAL, -1;
+    int fd = open(path, flags | O_CLOEXEC, mode);
+    if (fd >= 0 && flock(fd, LOCK_EX | LOCK_NB) != 0) close_file(&fd);
+    return fd;
+}
+
+/* Locks the file `.lock` beside, which stays when a rename replaces the notes. */
+static int lock_beside(const char *path) {
+    char beside[MAX_PATH + 8];
+    return open_locked(path_beside(beside, path, ".lock"), O_WRONLY | O_CREAT | O_APPEND, 0666);
+}
+
+/* Refuses notes that have another name, and others than those that are open. A rename would replace
+   one name, and clients by the others would use their numbers again. */
+static int check_name(const char *path, int notes) {
+    struct stat held, found;
+    if (fstat(notes, &held) != 0 || lstat(path, &found) != 0) return S10_SYSTEM;
+    if (held.st_ino != found.st_ino || held.st_dev != found.st_dev) return errno = ENOENT, S10_SYSTEM;
+    return found.st_nlink == 1 ? 0 : S10_LINKED_NOTES;
+}
 
 /* Writes all bytes to a new file and syncs it. */
 static int write_file(int fd, const char *text, size_t len) {
@@ -28,7 +67,7 @@ static int write_file(int fd, const char *text, size_t len) {
 
 /* Syncs the folder of a path, so that a rename in it is durable. */
 static int sync_folder(const char *path) {
-    char folder[sizeof((struct s10_session *)0)->path];
+    char folder[MAX_PATH];
     const char *slash = strrchr(path, '/');
     size_t len = slash == NULL ? 0 : slash == path ? 1 : (size_t)(slash - path);
     memcpy(folder, path, len);
@@ -57,18 +96,44 @@ static size_t notes_of(const struct s10_client *client, char text[MAX_NOTES]) {
                             client->customer, client->first + client->taken, client->last, request);
 }
 
-/* Writes the notes beside their file, and renames them into place. */
-static int write_notes(const char *path, const struct s10_client *client) {
-    char text[MAX_NOTES], beside[sizeof((struct s10_session *)0)->path + 8];
+/* Creates the file `.new` beside and locks it, since it will be the notes. Removes that of a client
+   which was stopped. It has the mode of the notes that it will replace, and for root their owner. */
+static int create_beside(const char *beside, int replaced) {
+    struct stat found;
+    if (lstat(beside, &found) == 0) {
+        if (!S_ISREG(found.st_mode)) return errno = EINVAL, -1;
+        if (unlink(beside) != 0) return -1;
+    }
+    int fd = open_locked(beside, O_RDWR | O_CREAT | O_EXCL, 0600);
+    if (fd < 0 || replaced < 0) return fd;
+    if (fstat(replaced, &found) != 0 ||
+        (fchown(fd, found.st_uid, found.st_gid) != 0 && errno != EPERM) ||
+        fchmod(fd, found.st_mode & 07777) != 0)
+        close_file(&fd);
+    return fd;
+}
+
+/* Writes the notes beside their file, and renames them into place. Returns their file, locked. */
+static int write_notes(const char *path, const struct s10_client *client, int replaced) {
+    char text[MAX_NOTES], beside[MAX_PATH + 8];
     size_t len = notes_of(client, text);
-    snprintf(beside, sizeof beside, "%s.new", path);
-    int fd = open(beside, O_WRONLY | O_CREAT | O_TRUNC | O_CLOEXEC, 0666);
+    int fd = create_beside(path_beside(beside, path, ".new"), replaced);
     if (fd < 0) return -1;
-    int failed = write_file(fd, text, len), cause = errno;
-    if (close(fd) != 0 && !failed) failed = -1, cause = errno;
-    errno = cause;
-    if (failed || rename(beside, path) != 0) return -1;
-    return sync_folder(path);
+    if (write_file(fd, text, len) != 0 || rename(beside, path) != 0 || sync_folder(path) != 0)
+        close_file(&fd);
+    return fd;
+}
+
+/* Replaces the notes of a session. */
+static int replace_notes(struct s10_session *session, const struct s10_client *client) {
+    int code = check_name(session->path, session->notes);
+    if (code != 0) return code;
+    int fd = write_notes(session->path, client, session->notes);
+    if (fd < 0) return S10_SYSTEM;
+    close_file(&session->notes);
+    session->notes = fd;
+    session->recorded = client->pending.len == 0;
+    return 0;
 }
 
 /* Reads the number of a key of the notes, up to `most`. */
@@ -82,21 +147,15 @@ static int read_number(const char *text, const char *key, uint64_t most, uint64_
 
 /* Reads the text of the notes. An earlier process may have stopped before it synced their file or its
    name, so both are synced first: what is read stays. */
-static ssize_t read_text(const char *path, char text[MAX_NOTES]) {
-    if (sync_folder(path) != 0) return -1;
-    int fd = open(path, O_RDONLY | O_CLOEXEC);
-    if (fd < 0) return -1;
-    ssize_t len = fsync(fd) != 0 ? -1 : read(fd, text, MAX_NOTES - 1);
-    int cause = errno;
-    close(fd);
-    errno = cause;
-    return len;
+static ssize_t read_text(const char *path, int notes, char text[MAX_NOTES]) {
+    if (sync_folder(path) != 0 || fsync(notes) != 0) return -1;
+    return read(notes, text, MAX_NOTES - 1);
 }
 
 /* Reads the notes: the request is pending if there is one, and the next number follows it. */
-static int read_notes(const char *path, struct s10_client *client) {
+static int read_notes(const char *path, int notes, struct s10_client *client) {
     char text[MAX_NOTES];
-    ssize_t len = read_text(path, text);
+    ssize_t len = read_text(path, notes, text);
     if (len < 0) return S10_SYSTEM;
     text[len] = '\0';
 
@@ -131,35 +190,52 @@ static int read_notes(const char *path, struct s10_client *client) {
 
 int s10_notes_create(const char *path, uint32_t customer, uint32_t first, uint32_t last) {
     struct s10_client client = {.customer = customer, .first = first, .last = last};
-    char text[MAX_NOTES];
-    if (strlen(path) >= sizeof((struct s10_session *)0)->path)
-        return errno = ENAMETOOLONG, S10_SYSTEM;
+    struct stat found;
+    if (strlen(path) >= MAX_PATH) return errno = ENAMETOOLONG, S10_SYSTEM;
     if (first > last) return S10_NUMBERS_SPENT;
-    int fd = open(path, O_WRONLY | O_CREAT | O_EXCL | O_CLOEXEC, 0666);
-    if (fd < 0) return S10_SYSTEM;
-    int failed = write_file(fd, text, notes_of(&client, text)), cause = errno;
-    if (close(fd) != 0 && !failed) failed = -1, cause = errno;
-    errno = cause;
-    return failed || sync_folder(path) != 0 ? S10_SYSTEM : 0;
+    if (lstat(path, &found) == 0) return errno = EEXIST, S10_SYSTEM;
+    int lock = lock_beside(path);
+    if (lock < 0) return S10_SYSTEM;
+    int fd = lstat(path, &found) == 0 ? (errno = EEXIST, -1) : write_notes(path, &client, -1);
+    int code = fd < 0 ? S10_SYSTEM : 0;
+    close_file(&fd);
+    close_file(&lock);
+    return code;
+}
+
+/* Writes the path without symbolic links to the session: a rename would replace a link, and not the
+   notes. */
+static int resolve(struct s10_session *session, const char *path) {
+    char *real = realpath(path, NULL);
+    if (real == NULL) return -1;
+    size_t len = strlen(real);
+    if (len < MAX_PATH) memcpy(session->path, real, len + 1);
+    free(real);
+    return len < MAX_PATH ? 0 : (errno = ENAMETOOLONG, -1);
+}
+
+/* Locks and reads the notes at a path. */
+static int open_notes(struct s10_session *session, const char *path) {
+    struct stat found;
+    if (resolve(session, path) != 0 || stat(session->path, &found) != 0) return S10_SYSTEM;
+    if (!S_ISREG(found.st_mode)) return S10_BAD_NOTES;
+    if ((session->lock = lock_beside(session->path)) < 0) return S10_SYSTEM;
+    if ((session->notes = open_locked(session->path, O_RDWR, 0)) < 0) return S10_SYSTEM;
+    int code = check_name(session->path, session->notes);
+    if (code == 0) code = read_notes(session->path, session->notes, &session->client);
+    session->recorded = session->client.pending.len == 0;
+    return code;
 }
 
 int s10_session_open(struct s10_session *session, const char *path, const char *address,
                      uint16_t port) {
     struct sockaddr_in server = {.sin_family = AF_INET, .sin_port = htons(port)};
-    char lock[sizeof session->path + 8];
     memset(session, 0, sizeof *session);
-    session->socket = session->lock = -1;
+    session->socket = session->lock = session->notes = -1;
     session->tries = 5;
     session->wait = 1000;
-    if (strlen(path) >= sizeof session->path) return errno = ENAMETOOLONG, S10_SYSTEM;
-    strcpy(session->path, path);
     if (inet_pton(AF_INET, address, &server.sin_addr) != 1) return S10_BAD_ADDRESS;
-
-    snprintf(lock, sizeof lock, "%s.lock", path);
-    session->lock = open(lock, O_WRONLY | O_CREAT | O_APPEND | O_CLOEXEC, 0666);
-    int code = S10_SYSTEM;
-    if (session->lock >= 0 && flock(session->lock, LOCK_EX | LOCK_NB) == 0)
-        code = read_notes(path, &session->client);
+    int code = open_notes(session, path);
     if (code == 0) {
         /* Connected, the socket receives from the server's address alone. */
         session->socket = socket(AF_INET, SOCK_DGRAM, 0);
@@ -167,11 +243,7 @@ int s10_session_open(struct s10_session *session, const char *path, const char *
             connect(session->socket, (struct sockaddr *)&server, sizeof server) != 0)
             code = S10_SYSTEM;
     }
-    if (code != 0) {
-        int cause = errno;
-        s10_session_close(session);
-        errno = cause;
-    }
+    if (code != 0) s10_session_close(session);
     return code;
 }
 
@@ -209,13 +281,19 @@ int s10_session_call(struct s10_session *session, const struct s10_request *requ
     struct s10_client next = session->client;
     struct s10_result result = s10_submit(&next, request);
     if (result.code != S10_OK) return (int)result.code;
-    if (write_notes(session->path, &next) != 0) return S10_SYSTEM;
+    int code = replace_notes(session, &next);
+    if (code != 0) return code;
     session->client = next;
     return s10_session_again(session, out);
 }
 
+int s10_session_record(struct s10_session *session) {
+    if (session->recorded || session->client.pending.len > 0) return 0;
+    return replace_notes(session, &session->client);
+}
+
 void s10_session_close(struct s10_session *session) {
-    if (session->socket >= 0) close(session->socket);
-    if (session->lock >= 0) close(session->lock);
-    session->socket = session->lock = -1;
+    close_file(&session->socket);
+    close_file(&session->notes);
+    close_file(&session->lock);
 }

@@ -3,11 +3,12 @@
  *     s10_draw create NOTES CUSTOMER FIRST LAST
  *     s10_draw NOTES ADDRESS PORT SERVICE COUNTRY [COUNT [WAIT]]
  *
- * The first form creates the notes of a client. The second asks the last request of the notes again
- * and then draws COUNT identifiers, by default 1. It sends a request up to 5 times and waits WAIT
- * milliseconds after each, by default 1000. It prints a line for each reply: the number of the
- * request, and the day and the identifier, or the code of the refusal. A line with a number that
- * was printed before repeats that line.
+ * The first form creates the notes of a client. The second draws COUNT identifiers, by default 1. If
+ * the run before was stopped, it first asks its last request again. It sends a request up to 5 times
+ * and waits WAIT milliseconds after each, by default 1000. It prints a line for each reply: the
+ * number of the request, and the day and the identifier, or the code of the refusal. A line with a
+ * number that was printed before repeats that line. At the end it records that the last one was
+ * printed.
  *
  * Status: 0 done, 1 refused by a rule, 2 wrong words, 3 no reply, or the notes, the socket or the
  * output failed. After a line that was not printed it draws no more; the next run repeats it. */
@@ -36,6 +37,7 @@ static int fail(int code) {
             : code == S10_GAVE_UP     ? "gave-up"
             : code == S10_BAD_NOTES   ? "no notes"
             : code == S10_BAD_ADDRESS ? "no IPv4 address"
+            : code == S10_LINKED_NOTES ? "the notes are linked"
                                       : word.text);
     return code == S10_BAD_ADDRESS || (code >= S10_BAD_KIND && code <= S10_BAD_COUNT) ? 2 : 3;
 }
@@ -106,6 +108,7 @@ int main(int argc, char **argv) {
             done = print(&sent, &outcome);
         }
     }
+    if (code == 0 && done >= 0) code = s10_session_record(&session);
     s10_session_close(&session);
     return code != 0 ? fail(code) : done < 0 ? fail_output() : !done;
 }

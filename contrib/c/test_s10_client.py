@@ -84,13 +84,13 @@ def main():
         networks.stop()
 
         # The client in Python continues with the same notes, and this one after it.
+        number = max(log.drawn)
         with Client.open(notes, server.address) as client:
-            number = client.number_of_request
-            assert client.is_open and client.again().identifier == log.drawn[number]
+            assert not client.is_open, "a clean end left a request"
             log.drawn[number + 1] = client.draw("RA", "GB").identifier
         output, status = run(notes, server.address, 1)
         log.add(output)
-        assert status == 0 and len(log.drawn) == number + 2
+        assert status == 0 and len(log.drawn) == number + 2 and output.count("\n") == 1, output
 
         server.stop()
         assert sorted(log.drawn) == list(range(1, len(log.drawn) + 1)), "a number is missing"

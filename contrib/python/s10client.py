@@ -6,16 +6,17 @@
 
     with Client.open("printer.notes", ("127.0.0.1", 4000)) as client:
         if client.is_open:
-            print(client.again())           # the reply to the last request of the run before
+            print(client.again().identifier)        # the run before was stopped: nobody knows whether it printed this
         print(client.draw("RA", "GB").identifier)
-        for drawn in client.draw_many("RA", "GB", 16):              # a sheet of labels, all or none
-            print(drawn.identifier)
 
 A request is written down with its number before it is sent, so that it is never sent again with
 another number. If no reply arrives, `GaveUp` is raised and the request stays pending: `again` sends
 it again, and the server executes it at most once. Until a reply comes, no other request is accepted.
-A client opened from notes begins with its last request pending, since the notes do not record whether
-its reply came. A repeat of a kept call costs the server no write and changes nothing.
+A repeat of a kept call costs the server no write and changes nothing.
+
+The notes record that a reply came when it was used: at the end of `with` unless an exception ends it,
+at `record`, and at the next request. Only a run that did not come that far leaves its last request
+pending, and the client of the next run begins with it (`is_open`).
 
 Each refusal by the server is a subclass of `Refused`. A text or a number that fits no datagram
 raises `ValueError`, and uses no number. A client is for one thread at a time.
@@ -25,10 +26,13 @@ proved code of that library numbers and writes the requests and reads the replie
 this file does so. `library` names the library, or is None.
 """
 
+import contextlib
+import errno
 import json
 import os
 import re
 import socket
+import stat
 import struct
 import time
 from typing import NamedTuple
@@ -173,7 +177,7 @@ class Client:
     `server` is an IPv4 address and a port. `write_down` is called with the datagram of each new
     request before it is sent. If it raises, nothing is sent and the number is not used. It must
     store the datagram durably. `number` is the next number, `last` the last one. `request` is the
-    last datagram that the run before has written down, if any. A request is sent up to `tries`
+    last datagram that the run before has written down, unless its reply was used. A request is sent up to `tries`
     times, each time with `wait` seconds for its reply.
     """
 
@@ -209,6 +213,11 @@ class Client:
         client._notes = notes
         return client
 
+    def record(self):
+        """Records in the notes that the last reply came and was used. The next run does not ask for it again."""
+        if self._notes is not None and not self.is_open:
+            self._notes.record_reply()
+
     def close(self):
         """Closes the socket, and unlocks the notes."""
         self._link.close()
@@ -218,8 +227,12 @@ class Client:
     def __enter__(self):
         return self
 
-    def __exit__(self, *_):
-        self.close()
+    def __exit__(self, kind, *_):
+        try:
+            if kind is None:
+                self.record()
+        finally:
+            self.close()
 
     def grant(self, holder, service, country, first, last):
         """Grants serials to a customer, as the post. Returns the number of the range."""
@@ -256,6 +269,7 @@ class Client:
         outcome, answer = self._call()
         self.is_open = False
         if outcome:
+            self.record()                       # no identifier can be lost
             refusal = _REFUSALS[outcome][0]
             raise refusal(f"request {self.number_of_request}: {refusal.__doc__}")
         return answer
@@ -484,34 +498,47 @@ def make_notes(path, customer, first=1, last=LAST_NUMBER):
     """
     if _u32(first, "number") > _u32(last, "number"):
         raise ValueError("the first number is above the last")
-    noted = {"customer": _u32(customer, "customer"), "next": first, "last": last, "request": None}
-    with open(path, "x", encoding="ascii") as file:
-        _write_whole(file, noted)
-    _sync_folder(path)
+    customer = _u32(customer, "customer")
+    path = os.fspath(path)
+    _require_free(path)
+    with _lock_beside(path):
+        _require_free(path)
+        _write_notes(path, {"customer": customer, "next": first, "last": last, "request": None}).close()
 
 
 class _Notes:
-    """A file with the customer, the next number, the last number and the last request."""
+    """A file with the customer, the next number, the last number and the open request."""
 
     def __init__(self, path):
-        import fcntl                            # POSIX only
-        self._path = os.fspath(path)
-        self._lock = open(self._path + ".lock", "a", encoding="ascii")
+        # A rename would replace a symbolic link, and not the notes.
+        self._path = os.path.realpath(os.fspath(path))
+        if not _is_regular(os.stat(self._path)):
+            raise ValueError(f"{self._path} is no regular file")
+        self._file = None
+        self._lock = _lock_beside(self._path)
         try:
-            fcntl.flock(self._lock, fcntl.LOCK_EX | fcntl.LOCK_NB)
+            self._file = _locked(os.open(self._path, os.O_RDWR))
+            self._check_name()
             self._read()
         except BaseException:
-            self._lock.close()
+            self.close()
             raise
+
+    # A rename would replace one name of the notes, and clients by the others would use their numbers again.
+    def _check_name(self):
+        held, found = os.fstat(self._file.fileno()), os.stat(self._path, follow_symlinks=False)
+        if not os.path.samestat(held, found):
+            raise FileNotFoundError(errno.ENOENT, "other notes took the place of those that are open", self._path)
+        if found.st_nlink != 1:
+            raise OSError(errno.EMLINK, "the notes are linked: they have another name", self._path)
 
     def _read(self):
         # An earlier process may have stopped before it synced the file or its name. What is read stays.
         _sync_folder(self._path)
-        with open(self._path, encoding="ascii") as file:
-            os.fsync(file.fileno())
-            text = file.read()
+        os.fsync(self._file.fileno())
+        data = os.pread(self._file.fileno(), _LONGEST, 0)
         try:
-            noted = json.loads(text)
+            noted = json.loads(data.decode("ascii"))
             self.customer, self.last = _u32(noted["customer"], "customer"), _u32(noted["last"], "number")
             self.next, request = noted["next"], noted["request"]
             self.request = None if request is None else bytes.fromhex(request)
@@ -523,24 +550,81 @@ class _Notes:
             raise ValueError(f"{self._path} holds no notes: {fault}") from fault
 
     def write_down(self, request):
-        """Replaces the notes by a rename, so that they are whole at any moment. The rename is on disk at the end."""
-        number = _HEADER.unpack_from(request)[4]
-        beside = self._path + ".new"
-        with open(beside, "w", encoding="ascii") as file:
-            _write_whole(file, {"customer": self.customer, "next": number + 1, "last": self.last,
-                                "request": request.hex()})
-        os.replace(beside, self._path)
-        _sync_folder(self._path)
+        """Replaces the notes by those in which the request is open."""
+        self._replace(_HEADER.unpack_from(request)[4] + 1, request)
+
+    def record_reply(self):
+        """Replaces the notes by those without an open request, unless they have none."""
+        if self.request is not None:
+            self._replace(self.next, None)
+
+    def _replace(self, number, request):
+        self._check_name()
+        file = _write_notes(self._path, {"customer": self.customer, "next": number, "last": self.last,
+                                         "request": None if request is None else request.hex()}, self._file)
+        self._file.close()
+        self._file, self.next, self.request = file, number, request
 
     def close(self):
-        self._lock.close()
+        for file in (self._file, self._lock):
+            if file is not None:
+                file.close()
 
 
-def _write_whole(file, noted):
-    json.dump(noted, file)
-    file.write("\n")
-    file.flush()
-    os.fsync(file.fileno())
+def _is_regular(found):
+    return stat.S_ISREG(found.st_mode)
+
+
+def _require_free(path):
+    if os.path.lexists(path):
+        raise FileExistsError(errno.EEXIST, os.strerror(errno.EEXIST), path)
+
+
+# Locks an open file, or closes it and raises `BlockingIOError`.
+def _locked(descriptor):
+    import fcntl                                # POSIX only
+    file = os.fdopen(descriptor, "r+b", buffering=0)
+    try:
+        fcntl.flock(file, fcntl.LOCK_EX | fcntl.LOCK_NB)
+    except BaseException:
+        file.close()
+        raise
+    return file
+
+
+# Locks the file `.lock` beside, which stays when a rename replaces the notes. To open a pipe could wait.
+def _lock_beside(path):
+    path += ".lock"
+    if os.path.exists(path) and not _is_regular(os.stat(path)):
+        raise ValueError(f"{path} is no regular file")
+    return _locked(os.open(path, os.O_RDWR | os.O_APPEND | os.O_CREAT, 0o666))
+
+
+# Writes notes beside their file and renames them onto it, so that they are whole at any moment. They are locked and on
+# disk at the end. They have the mode of those that they replace, and for root the owner. Returns their file.
+def _write_notes(path, noted, replaced=None):
+    beside = path + ".new"
+    if os.path.lexists(beside):
+        if not _is_regular(os.lstat(beside)):
+            raise ValueError(f"{beside} is no regular file")
+        os.remove(beside)                       # of a client that was stopped
+    file = _locked(os.open(beside, os.O_RDWR | os.O_CREAT | os.O_EXCL, 0o600))
+    try:
+        if replaced is not None:
+            found = os.fstat(replaced.fileno())
+            with contextlib.suppress(PermissionError):
+                os.fchown(file.fileno(), found.st_uid, found.st_gid)
+            os.fchmod(file.fileno(), stat.S_IMODE(found.st_mode))
+        text = (json.dumps(noted) + "\n").encode("ascii")
+        while text:
+            text = text[file.write(text):]
+        os.fsync(file.fileno())
+        os.replace(beside, path)
+        _sync_folder(path)
+    except BaseException:
+        file.close()
+        raise
+    return file
 
 
 def _sync_folder(path):

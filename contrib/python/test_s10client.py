@@ -434,13 +434,18 @@ class Notes(ServedTest):
             self.assertFalse(client.is_open)
             self.assertEqual(client.draw("RA", "GB").identifier, "RA000000005GB")
             self.assertEqual(client.draw("RA", "GB").identifier, "RA000000014GB")
+        with self.assertRaises(KeyboardInterrupt), self.open() as client:
+            self.assertFalse(client.is_open)        # the run before came to its end
+            self.assertEqual(client.draw("RA", "GB").identifier, "RA000000028GB")
+            raise KeyboardInterrupt                 # before the label was printed
         with self.open() as client:
             with self.assertRaises(Unanswered):
                 client.draw("RA", "GB")
-            self.assertEqual(client.again().identifier, "RA000000014GB")
-            self.assertEqual(client.draw("RA", "GB").identifier, "RA000000028GB")
+            self.assertEqual(client.again().identifier, "RA000000028GB")
             with self.assertRaises(NumbersSpent):
                 client.draw("RA", "GB")
+        with self.open() as client:
+            self.assertFalse(client.is_open)
         self.server.stop()
         self.assertEqual([n for _, n, _ in self.server.issues()], [11, 12, 13])
 
@@ -486,10 +491,22 @@ class Notes(ServedTest):
         with self.assertRaises(FileNotFoundError):
             self.open()
 
-    def test_what_holds_no_notes_is_refused(self):
+    def make_open_notes(self):
+        """Creates notes with an open request: its reply was not recorded."""
         make_notes(self.path, 7)
+        client = self.open()
+        client.draw("RA", "GB")
+        client.close()
+
+    def test_a_refusal_is_asked_once(self):
+        make_notes(self.path, 7)
+        with self.assertRaises(NoRange), self.open() as client:
+            client.draw("RB", "GB")
         with self.open() as client:
-            client.draw("RA", "GB")
+            self.assertFalse(client.is_open)
+
+    def test_what_holds_no_notes_is_refused(self):
+        self.make_open_notes()
         with open(self.path, encoding="ascii") as file:
             text = file.read()
         for wrong in ("", "{}", text[:-9], text.replace(': 2', ': 3'), text.replace(': 7', ': 8'),
@@ -514,15 +531,19 @@ class Notes(ServedTest):
         with self.open() as client:
             self.assertEqual(client.draw("RA", "GB").identifier, "RA000000005GB")
             self.assertEqual(self.again(), "notes locked\n")
-        reply = "reply draw customer 7 number 11 RA GB done day 20000 RA000000005GB\n"
-        self.assertEqual(self.again(), reply)
         self.assertEqual(self.again(), "refused answered\n")
-        with self.open() as client:
-            self.assertFalse(client.is_open)
-            self.assertEqual(client.draw("RA", "GB").identifier, "RA000000014GB")
-            client.query("RA000000014GB")
-            with self.assertRaises(NumbersSpent):
-                client.draw("RA", "GB")
+        client = self.open()
+        self.assertFalse(client.is_open)
+        self.assertEqual(client.draw("RA", "GB").identifier, "RA000000014GB")
+        client.close()
+        self.assertEqual(self.again(), "reply draw customer 7 number 12 RA GB done day 20000 RA000000014GB\n")
+        self.assertEqual(self.again(), "refused answered\n")
+        client = self.open()
+        self.assertFalse(client.is_open)
+        client.query("RA000000014GB")
+        with self.assertRaises(NumbersSpent):
+            client.draw("RA", "GB")
+        client.close()
         self.assertEqual(self.again(), "reply query customer 7 number 13 RA000000014GB done issued 20000\n")
         with self.open() as client:
             self.assertFalse(client.is_open)
@@ -530,9 +551,7 @@ class Notes(ServedTest):
                 client.draw("RA", "GB")
 
     def test_the_program_refuses_what_holds_no_notes(self):
-        make_notes(self.path, 7)
-        with self.open() as client:
-            client.draw("RA", "GB")
+        self.make_open_notes()
         with open(self.path, encoding="ascii") as file:
             text = file.read()
         for wrong in ("", "{}", text[:-9], text + "\n", text.replace(": 2", ": 3"), text.replace(": 7", ": 8"),

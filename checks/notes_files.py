@@ -1,0 +1,287 @@
+#!/usr/bin/env python3
+"""Tries the files of notes by each of the clients: `s10`, the client in Python and, if DRAW names it, `s10_draw` of contrib/c.
+
+Two names: by a symbolic link each client must use the file that it names. No identifier is drawn twice, and a client that has the
+notes open keeps the others out by either name. With a hard link each client must refuse the notes, and leave them as they were.
+Odd files: a pipe, a device, a folder or a symbolic link at the path of the notes, of `.new` or of `.lock` is refused at once.
+Modes: notes have the mode of those that they replace, and as root the owner; new ones are for their owner alone.
+
+    python3 checks/notes_files.py [PROGRAM [DRAW]]
+"""
+
+import os
+import re
+import subprocess
+import sys
+import tempfile
+import threading
+import time
+from collections import Counter
+from pathlib import Path
+
+ROOT = Path(__file__).resolve().parent.parent
+PROGRAM = os.path.abspath(sys.argv[1] if len(sys.argv) > 1 else ROOT / "crates/s10/out/s10")
+DRAW = os.path.abspath(sys.argv[2]) if len(sys.argv) > 2 else None
+os.environ["S10"] = PROGRAM
+sys.path.insert(0, str(ROOT / "contrib/python"))
+from test_s10client import Server, run_and_kill, s10  # noqa: E402
+
+PYTHON = """
+import sys
+from s10client import Client
+with Client.open(sys.argv[1], (sys.argv[2], int(sys.argv[3]))) as client:
+    print(client.draw("RA", "GB").identifier)
+    print("open", flush=True)
+    sys.stdin.read()
+"""
+CUSTOMER, AT_ONCE = 7, 8
+
+
+class Failed(Exception):
+    """What must not happen."""
+
+
+def holds(what, is_so, *more):
+    if not is_so:
+        raise Failed(": ".join([what, *map(str, more)]))
+
+
+def words_of(client, notes, address):
+    """Returns the command by which a client draws once."""
+    if client == "s10":
+        return [PROGRAM, "draw", "--to", "{}:{}".format(*address), "--notes", notes, "--service", "RA", "--country", "GB"]
+    if client == "c":
+        return [DRAW, notes, address[0], str(address[1]), "RA", "GB"]
+    return [sys.executable, "-c", PYTHON, notes, address[0], str(address[1])]
+
+
+def draw(client, notes, address):
+    """Draws once. Returns the identifiers that were printed, what was printed, and the status."""
+    done = subprocess.run(words_of(client, notes, address), stdin=subprocess.DEVNULL, capture_output=True, text=True, check=False,
+                          cwd=ROOT / "contrib/python", timeout=60)
+    return re.findall(r"\bRA\d{9}GB\b", done.stdout), done.stdout + done.stderr, done.returncode
+
+
+def folder_of(folder, name):
+    """Returns a new folder in the folder, with another one in it."""
+    new = Path(folder, name)
+    (new / "far").mkdir(parents=True)
+    return new
+
+
+def new_notes(folder, numbers):
+    """Creates notes with the next hundred numbers. Returns their path."""
+    first = next(numbers)
+    path = str(folder / "notes")
+    made = s10("notes", "--file", path, "--customer", CUSTOMER, "--first", first, "--last", first + 99)
+    holds("notes", made == "created\n", made)
+    return path
+
+
+def names_of(folder, path):
+    """Returns names of the notes: their own, links beside and in another folder, and one through a folder's link."""
+    (folder / "beside").symlink_to("notes")
+    (folder / "far/link").symlink_to("../beside")
+    (folder / "folder").symlink_to(folder)
+    return [path, str(folder / "beside"), str(folder / "far/link"), str(folder / "folder/notes")]
+
+
+def try_in_turn(client, folder, address, numbers):
+    """Draws by each name in turn, twice. No identifier may come twice, and the links stay links."""
+    folder = folder_of(folder, f"turn-{client}")
+    names = names_of(folder, new_notes(folder, numbers))
+    found = []
+    for name in names * 2:
+        drawn, printed, status = draw(client, name, address)
+        holds(f"{client} drew nothing by {name}", len(drawn) == 1 and status == 0, printed)
+        found += drawn
+    holds(f"{client} drew an identifier twice", len(set(found)) == len(found), found)
+    holds(f"{client} left other files", sorted(it.name for it in folder.iterdir())
+          == ["beside", "far", "folder", "notes", "notes.lock"] and (folder / "beside").is_symlink())
+
+
+def try_at_once(client, folder, address, numbers):
+    """Draws by all names at once. Each run draws, or is kept out; no identifier may come twice."""
+    folder = folder_of(folder, f"once-{client}")
+    names = names_of(folder, new_notes(folder, numbers))
+    runs = []
+
+    def run(name):
+        runs.append(draw(client, name, address))
+
+    for _ in range(3):
+        threads = [threading.Thread(target=run, args=(names[at % len(names)],)) for at in range(AT_ONCE)]
+        for thread in threads:
+            thread.start()
+        for thread in threads:
+            thread.join()
+    found = [it for drawn, _, _ in runs for it in drawn]
+    holds(f"{client} drew an identifier twice at once", len(set(found)) == len(found), found)
+    holds(f"{client} drew nothing at once", found)
+    for drawn, printed, status in runs:
+        holds(f"{client} failed at once", (status == 0) == bool(drawn) and (drawn or re.search(LOCKED, printed)), printed)
+
+
+LOCKED = r"notes locked|BlockingIOError|s10_draw: Resource temporarily unavailable"
+
+
+def try_held(folder, address, numbers, clients):
+    """Holds notes open by the client in Python under one name, and draws by each client under the others, also after their `.lock`
+    was removed."""
+    folder = folder_of(folder, "held")
+    names = names_of(folder, new_notes(folder, numbers))
+    with subprocess.Popen(words_of("python", names[2], address), stdin=subprocess.PIPE, stdout=subprocess.PIPE, text=True,
+                          cwd=ROOT / "contrib/python") as holder:
+        first = holder.stdout.readline().strip()
+        holds("the holder", holder.stdout.readline() == "open\n", first)
+        for is_removed in (False, True):
+            if is_removed:
+                os.remove(folder / "notes.lock")
+            for client in clients:
+                for name in names:
+                    drawn, printed, status = draw(client, name, address)
+                    holds(f"{client} used notes that are open, by {name}", not drawn and status, printed)
+                    holds(f"{client} does not say that they are locked", re.search(LOCKED, printed), printed)
+        holder.stdin.close()
+        holder.wait()
+    drawn, printed, _ = draw("s10", names[0], address)
+    holds("the notes afterwards", len(drawn) == 1 and drawn != [first], printed)
+
+
+def try_hard_link(client, folder, address, numbers):
+    """Gives notes a hard link, beside or in another folder: both names are refused, and both files stay. Without it the notes are
+    used again."""
+    for place in ("beside", "far/link"):
+        folder_now = folder_of(folder, f"hard-{client}-{place[:3]}")
+        path = new_notes(folder_now, numbers)
+        drawn, printed, _ = draw(client, path, address)
+        holds(f"{client} drew nothing", len(drawn) == 1, printed)
+        link = folder_now / place
+        os.link(path, link)
+        (folder_now / "soft").symlink_to(link)
+        before = Path(path).read_bytes()
+        for name in (path, str(link), str(folder_now / "soft")):
+            drawn, printed, status = draw(client, name, address)
+            holds(f"{client} used notes with a hard link, by {name}", not drawn and status, printed)
+            holds(f"{client} does not say that they are linked", "linked" in printed, printed)
+            if client == "s10":
+                holds("the line and the status", (printed, status) == ("notes linked\n", 3), printed, status)
+                again = s10("again", "--to", "{}:{}".format(*address), "--notes", name)
+                holds("again", again == "notes linked\n", again)
+        holds(f"{client} changed the notes", Path(path).read_bytes() == before and os.path.samefile(path, link))
+        os.remove(link)
+        drawn, printed, _ = draw(client, path, address)
+        holds(f"{client} drew nothing without the link", len(drawn) == 1, printed)
+
+
+def make_odd(path, kind):
+    """Makes something at a path that is no regular file."""
+    {"pipe": os.mkfifo, "folder": os.mkdir, "link to nothing": lambda it: os.symlink("victim", it),
+     "device": lambda it: os.symlink("/dev/null", it)}[kind](path)
+
+
+def try_odd_files(client, folder, address, numbers):
+    """Puts odd files at the paths of the notes and beside them. Each is refused at once and stays; what was written before stays."""
+    folder = folder_of(folder, f"odd-{client}")
+    path = Path(new_notes(folder, numbers))
+    os.remove(f"{path}.lock")
+    before, beside = path.read_bytes(), sorted(os.listdir(folder))
+    for end in ("", ".new", ".lock"):
+        for kind in ("pipe", "folder", "device", "link to nothing"):
+            if (end, kind) == (".lock", "link to nothing"):
+                continue                        # it leads to a new file, which is a lock as well as another
+            odd = f"{path}{end}" if end else str(folder / "odd")
+            make_odd(odd, kind)
+            drawn, printed, status = draw(client, odd if not end else str(path), address)
+            holds(f"{client} took a {kind} at notes{end}", not drawn and status, printed)
+            if client == "s10":
+                line = {"": "notes missing\n" if kind.startswith("link") else "notes damaged\n"}.get(end, "notes store\n")
+                holds("the line and the status", (printed, status) == (line, 3), printed, status)
+                made = s10("notes", "--file", odd, "--customer", CUSTOMER, "--first", 1, "--last", 2)
+                holds(f"notes at a {kind}", end or made == "notes taken\n", made)
+                if end:
+                    made = s10("notes", "--file", f"{path}2", "--customer", CUSTOMER, "--first", 1, "--last", 2)
+                    holds("other notes", made == "created\n", made)
+                    for name in (f"{path}2", f"{path}2.lock"):
+                        os.remove(name)
+            holds(f"{client} removed a {kind}", os.path.lexists(odd) and not os.path.isfile(odd))
+            os.rmdir(odd) if kind == "folder" else os.remove(odd)
+            if end != ".lock":
+                Path(f"{path}.lock").unlink(missing_ok=True)
+            holds(f"{client} left another file", sorted(os.listdir(folder)) == beside, os.listdir(folder))
+            holds(f"{client} changed the notes", path.read_bytes() == before)
+    Path(f"{path}.new").write_text("of a client that was stopped" * 99, encoding="ascii")
+    drawn, printed, _ = draw(client, str(path), address)
+    holds(f"{client} drew nothing over the `.new` of another client", len(drawn) == 1, printed)
+
+
+def try_modes(client, folder, address, numbers):
+    """Compares the modes of notes, and as root their owners, before and after a draw."""
+    folder = folder_of(folder, f"modes-{client}")
+    path = new_notes(folder, numbers)
+    holds("the mode of new notes", os.stat(path).st_mode & 0o777 == 0o600, oct(os.stat(path).st_mode))
+    for mode in (0o600, 0o640, 0o664):
+        os.chmod(path, mode)
+        if os.geteuid() == 0:
+            os.chown(path, 4711, 4712)
+        before = os.stat(path)
+        drawn, printed, _ = draw(client, path, address)
+        after = os.stat(path)
+        holds(f"{client} drew nothing", len(drawn) == 1, printed)
+        kept = [(it.st_mode, it.st_uid, it.st_gid) for it in (before, after)]
+        holds(f"{client} changed the mode or the owner", kept[0] == kept[1] and before.st_ino != after.st_ino, kept)
+
+
+def make_and_kill(path, kill_after=None):
+    """Creates notes, and kills the program after some seconds. Returns the text of the file, or None, and the status."""
+    words = [PROGRAM, "notes", "--file", path, "--customer", "7", "--first", "1", "--last", "9"]
+    _, status = run_and_kill(words, kill_after)
+    return path.read_text(encoding="ascii") if path.exists() else None, status
+
+
+def try_killed_making(folder):
+    """Kills `notes` at sixty moments of its run. A file at the path has whole notes."""
+    folder = folder_of(folder, "made")
+    start = time.monotonic()
+    holds("notes", make_and_kill(folder / "notes") == (NEW, 0))
+    span, made = time.monotonic() - start, Counter()
+    for at in range(60):
+        text, status = make_and_kill(folder / f"notes{at}", 1.5 * span * at / 60)
+        holds("a killed `notes` left no notes in the file", text in (None, NEW), repr(text))
+        made["killed" if status else "ended", "no file" if text is None else "notes"] += 1
+    print(f"`notes`: {dict(made)}")
+
+
+NEW = '{"customer": 7, "next": 1, "last": 9, "request": null}\n'
+
+
+def main():
+    clients = ["s10", "python"] + (["c"] if DRAW else [])
+    with tempfile.TemporaryDirectory() as folder:
+        server = Server(folder)
+        granted = s10("grant", "--to", "{}:{}".format(*server.address), "--number", 1, "--holder", CUSTOMER, "--service", "RA",
+                      "--country", "GB", "--first", 0, "--last", 99999)
+        numbers = iter(range(1000, 1000000, 100))
+        try:
+            holds("grant", granted.endswith(" done range 1\n"), granted)
+            for client in clients:
+                try_in_turn(client, folder, server.address, numbers)
+                try_at_once(client, folder, server.address, numbers)
+                try_hard_link(client, folder, server.address, numbers)
+                try_odd_files(client, folder, server.address, numbers)
+                try_modes(client, folder, server.address, numbers)
+            try_held(folder, server.address, numbers, clients)
+            try_killed_making(folder)
+        except Failed as why:
+            print(f"failed: {why}")
+            return 1
+        finally:
+            server.stop()
+        issued = [it for _, _, it in server.issues()]
+        audit = s10("audit", "--ledger", server.ledger)
+        print(f"{len(issued)} draws by {', '.join(clients)}; {audit}", end="")
+        return int(len(set(issued)) != len(issued) or not audit.startswith("ledger ok "))
+
+
+if __name__ == "__main__":
+    sys.exit(main())
