@@ -146,8 +146,9 @@ impl Folder for HostFolder<'_> {
     fn rename_beside(&mut self) -> Result<(), NotesFault> {
         let renamed = rename_onto(self.rt, self.real.as_str());
         self.log_call(&FolderCall::Rename, renamed.is_ok());
+        renamed?;
         self.notes = self.beside.take();
-        renamed
+        Ok(())
     }
 
     fn sync(&mut self) -> Result<(), NotesFault> {
