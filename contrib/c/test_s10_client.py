@@ -39,14 +39,14 @@ class Log:
             assert self.drawn.setdefault(int(number), identifier) == identifier, line
 
 
-def words_of(notes, address, count):
+def words_of(notes, address, count, wait=WAIT):
     """Returns the words of a run of the client."""
-    return [DRAW, notes, address[0], str(address[1]), "RA", "GB", str(count), str(WAIT)]
+    return [DRAW, notes, address[0], str(address[1]), "RA", "GB", str(count), str(wait)]
 
 
-def run(notes, address, count, kill_after=None):
+def run(notes, address, count, kill_after=None, wait=WAIT):
     """Runs the client, kills it after some seconds, and returns what it printed and its status."""
-    return run_and_kill(words_of(notes, address, count), kill_after)
+    return run_and_kill(words_of(notes, address, count, wait), kill_after)
 
 
 def check_failing_output(notes, address):
@@ -88,7 +88,7 @@ def main():
         with Client.open(notes, server.address) as client:
             assert not client.is_open, "a clean end left a request"
             log.drawn[number + 1] = client.draw("RA", "GB").identifier
-        output, status = run(notes, server.address, 1)
+        output, status = run(notes, server.address, 1, wait=5000)
         log.add(output)
         assert status == 0 and len(log.drawn) == number + 2 and output.count("\n") == 1, output
 
