@@ -1,5 +1,5 @@
 -- Datagrams as lines of text: the result and the line that it writes.
-use Rattle.std.specs.Prelude.{◌≡◌, ◌⊎◌, ℕ, List, length, Result, Ok, Err, IfOk, IfErr}
+use Rattle.std.specs.Prelude.{◌≡◌, ◌⊎◌, ◌≤◌, ◌<◌, ℕ, List, length, Result, Ok, Err, IfOk, IfErr}
 use Rattle.s10_wire.specs.declared.request.Request.{Request}
 use Rattle.s10_wire.specs.declared.reply.Reply.{Reply}
 use Rattle.s10_wire.specs.declared.wire_fault.WireFault.{WireFault}
@@ -21,10 +21,12 @@ line_of text = record { len = length text; text = zero_padded 512 text }
 abbrev pub no_room_code : ResultCode
 no_room_code = record { code = 41; at = 0 }
 
--- A text is written as a line, or refused and nothing is written.
+-- A text of at most 512 characters is written as a line. A longer one is refused, and nothing is
+-- written.
 abbrev pub WritesLine : List ℕ → ResultCode → Line → Line → Type 0
-WritesLine text result before after = ((result ≡ success_code) × (after ≡ line_of text))
-    ⊎ ((result ≡ no_room_code) × (after ≡ before))
+WritesLine text result before after =
+    ((length text ≤ 512) × (result ≡ success_code) × (after ≡ line_of text))
+    ⊎ ((512 < length text) × (result ≡ no_room_code) × (after ≡ before))
 
 -- A request that is read is written as its line; a refusal is reported and nothing is written.
 abbrev pub ReportsRequest : Result Request WireFault → ResultCode → Line → Line → Type 0

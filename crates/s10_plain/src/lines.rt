@@ -1,14 +1,13 @@
 //! Datagrams as lines of text.
-ghost use Rattle.std.specs.Prelude.{◌≡◌, ◌≤◌, IfOk, length};
-ghost use Rattle.s10_wire.specs.Reply.{request_of, outcome_of};
+ghost use Rattle.std.specs.Prelude.{◌≡◌, ◌≤◌, ℕ, List, length};
 ghost use Rattle.s10_wire.specs.Padding.{zero_padded};
-ghost use Rattle.s10_lines.specs.Lines.{request_line, reply_line};
-ghost use Rattle.s10_plain.specs.Lines.{line_of, no_room_code, ReportsRequest, ReportsReply};
+ghost use Rattle.s10_lines.specs.LineText.{Holds};
+ghost use Rattle.s10_plain.specs.Lines.{line_of, no_room_code, WritesLine, ReportsRequest};
+ghost use Rattle.s10_plain.specs.Lines.{ReportsReply};
 ghost use Rattle.s10_plain.specs.Lines.{WritesRequestLine, WritesReplyLine};
 
 use crate::result_code::{ResultCode, success, wire_fault_code};
-use arrayvec::ArrayVec;
-use s10_lines::{WriteFault, write_reply_line, write_request_line};
+use s10_lines::{LineText, text_of_reply, text_of_request};
 use s10_wire::{Reply, Request, WireFault, decode_reply, decode_request};
 
 /// A line of text with its line feed.
@@ -40,40 +39,29 @@ fn filled_line(text: &[u8]) -> Line
     }
 }
 
-fn line_of_request(request: &Request) -> Result<Line, WriteFault>
-    ensures { IfOk result (λ line. line ≡ line_of (request_line request.now)) }
-{
-    let mut text: ArrayVec<u8, 512> = ArrayVec::new();
-    write_request_line(request, &mut text)?;
-    Ok(filled_line(text.as_slice()))
-}
-
-fn line_of_reply(reply: &Reply) -> Result<Line, WriteFault>
-    ensures { IfOk result
-        (λ line. line ≡ line_of (reply_line (request_of reply.now) (outcome_of reply.now))) }
-{
-    let mut text: ArrayVec<u8, 512> = ArrayVec::new();
-    write_reply_line(reply, &mut text)?;
-    Ok(filled_line(text.as_slice()))
-}
-
 fn no_room() -> ResultCode
     ensures { result ≡ no_room_code }
 {
     ResultCode { code: 41, at: 0 }
 }
 
+fn report_line(line: &LineText, out: &mut Line) -> ResultCode
+    ensures { (text : List ℕ) → Holds line.now text → WritesLine text result out.old out.new }
+{
+    match line.as_slice() {
+        Some(text) => {
+            *out = filled_line(text);
+            success()
+        }
+        None => no_room(),
+    }
+}
+
 fn report_request(read: Result<Request, WireFault>, out: &mut Line) -> ResultCode
     ensures { ReportsRequest read result out.old out.new }
 {
     match read {
-        Ok(request) => match line_of_request(&request) {
-            Ok(line) => {
-                *out = line;
-                success()
-            }
-            Err(_) => no_room(),
-        },
+        Ok(request) => report_line(&text_of_request(&request), out),
         Err(fault) => wire_fault_code(fault),
     }
 }
@@ -82,13 +70,7 @@ fn report_reply(read: Result<Reply, WireFault>, out: &mut Line) -> ResultCode
     ensures { ReportsReply read result out.old out.new }
 {
     match read {
-        Ok(reply) => match line_of_reply(&reply) {
-            Ok(line) => {
-                *out = line;
-                success()
-            }
-            Err(_) => no_room(),
-        },
+        Ok(reply) => report_line(&text_of_reply(&reply), out),
         Err(fault) => wire_fault_code(fault),
     }
 }

@@ -1,9 +1,8 @@
 use Rattle.std.proofs.Common.{[], ◌∷◌}
 use Rattle.std.specs.Prelude.{decimal}
-use Rattle.s10_lines.proofs.Writing.{words_follow}
+use Rattle.s10_lines.proofs.Growing.{words_then}
 use Rattle.s10_lines.proofs.lines.write_named.Goals as goal
 
 pub returns : goal.returns
-returns g c =
-    words_follow _ _ _ (c.args.name.now ∷ []) (decimal c.args.number ∷ []) c.write_decimal.result
-    c.in_ok-write_word.ensures c.write_decimal.ensures
+returns c = words_then _ _ _ (c.args.name.now ∷ []) (decimal c.args.number ∷ []) c.add_word.ensures
+    c.add_decimal.ensures
