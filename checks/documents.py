@@ -415,13 +415,39 @@ def ask_again(room, command):
     run_and_compare(room, command)
 
 
-def label_by_notes(room, command):
-    """Runs the script, which draws, and once more when a draw gave up: then it has the reply to that."""
-    compare(command.where(), ["RA000000028GB"], room.run(command.text)[1])
+@contextlib.contextmanager
+def silent_server(room):
+    """A socket at the address of the room's server, from which no reply comes."""
     room.stop()
-    compare(command.where(), ["gave-up"], room.run(f"s10 draw {TO} --notes printer.notes --service RA --country GB --tries 1")[1])
+    with socket.socket(socket.AF_INET, socket.SOCK_DGRAM) as link:
+        link.bind(("127.0.0.1", room.port))
+        yield
+
+
+def label_before_a_server(room, command):
+    """Runs the script while the server is silent, until it has given up its draw and once more. Then there is a server that
+    replies. Returns what the script prints."""
+    with contextlib.ExitStack() as stack:
+        with silent_server(room):
+            words = ["bash", "-c", room.ours(command.text)]
+            script = subprocess.Popen(words, cwd=room.folder, env=room.env, stdout=subprocess.PIPE, stderr=subprocess.PIPE, text=True)
+            stack.callback(script.communicate)
+            stack.callback(script.kill)
+            compare(command.where(), ["gave-up\n"] * 2, [script.stderr.readline() for _ in range(2)])
+        room.serve(SERVE.format("ledger"))
+        return script.communicate(timeout=TIME_LIMIT)[0].splitlines()
+
+
+def label_by_notes(room, command):
+    """Runs the script, which draws; then before a server that is silent at first; and after a draw that gave up, to which it has
+    the reply."""
+    compare(command.where(), ["RA000000028GB"], room.run(command.text)[1])
+    compare(command.where(), ["RA000000031GB"], label_before_a_server(room, command))
+    with silent_server(room):
+        compare(command.where(), ["gave-up"], room.run(f"s10 draw {TO} --notes printer.notes --service RA --country GB --tries 1")[1])
     room.serve(SERVE.format("ledger"))
-    compare(command.where(), ["RA000000031GB"], room.run(command.text)[1])
+    for identifier in ("RA000000045GB", "RA000000059GB"):
+        compare(command.where(), [identifier], room.run(command.text)[1])
     room.stop()
 
 
