@@ -1,6 +1,6 @@
 #!/usr/bin/env python3
-"""Tries what the program does at its edges: at which addresses its sockets are and what they send, what it says of a wrong command
-line, and what its help says of the exit statuses.
+"""Tries what the program does at its edges: at which addresses its sockets are and what they send, how long its replies are, what it
+says of a wrong command line, and what its help says of the exit statuses.
 
   python3 checks/edges.py [PROGRAM]
 
@@ -138,6 +138,30 @@ def try_senders(folder):
     print("a server with --senders: each line has its own")
 
 
+def try_factors(_):
+    """The longest reply to a request of each kind is as long as SECURITY.md says."""
+    void, count = "52413030303030303030354742", 16
+    asked = {
+        "Grant": GRANT.hex()[:-8] + f"{count:08x}",
+        "Draw": "53310102000000070000000152414742",
+        "Void": "533101030000000700000002" + void,
+        "Query": "533101040000000700000003" + void,
+        "DrawMany, a sheet of 16": f"53310205000000070000000452414742{count:02x}",
+        "Withdraw": "53310206000000000000000200000001",
+    }
+    lines = "".join(f"20000 {datagram}\n" for datagram in asked.values())
+    status, out, err = run("replay", lines=lines)
+    replies = out.split()
+    same("the end of replay", (0, "", len(asked)), (status, err, len(replies)))
+    told = []
+    for (kind, datagram), reply in zip(asked.items(), replies):
+        sent, came = len(datagram) // 2, len(reply) // 2
+        told.append(f"  | {kind} | {sent} | {came} | {came / sent:.1f} | {(came + 28) / (sent + 28):.1f} |")
+    page = (HERE / "../SECURITY.md").read_text(encoding="utf-8").splitlines()
+    same("the factors of SECURITY.md", told, [line for line in page if re.match(r"  \| \w[^|]* \| \d", line)])
+    print(f"the replies to {len(asked)} kinds of request: as long as SECURITY.md says")
+
+
 def try_client(_):
     """A command that asks has one socket, to which any machine can reply, and sends its request as often as it says."""
     tries = 3
@@ -251,7 +275,7 @@ def try_statuses(folder):
 
 def main():
     signal.signal(signal.SIGINT, signal.default_int_handler)
-    parts = [try_wrong_lines, try_lines, try_help, try_statuses]
+    parts = [try_wrong_lines, try_lines, try_help, try_statuses, try_factors]
     if Path("/proc/net/udp").exists():
         parts += [try_server, try_senders, try_client]
     else:
