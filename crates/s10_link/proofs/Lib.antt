@@ -1,4 +1,3 @@
-mod SameFrames
 mod Scripts
 mod Numerals
 pub mod Led

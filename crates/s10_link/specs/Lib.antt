@@ -1,5 +1,6 @@
 pub mod Peer
-pub mod Trace
+pub mod Counts
 pub mod Link
+pub mod Carried
 pub mod ScriptLink
 pub mod UdpLink

@@ -1,12 +1,16 @@
 -- How a call of a link changes its trace, by its result.
-use Rattle.std.specs.Prelude.{◌≡◌, ◌-◌, ◌^◌, Option, Some, None, Result, Ok, Err}
+use Rattle.std.specs.Prelude.{◌≡◌, ◌-◌, ◌^◌, ◌++◌, ◌∷◌, [], length, Option, Some, None, Result, Ok, Err}
 use Rattle.s10_link.specs.declared.trace.Trace.{Trace}
 use Rattle.s10_link.specs.declared.peer.Peer.{Peer}
 use Rattle.s10_link.specs.declared.packet.Packet.{Packet}
 use Rattle.s10_wire.specs.declared.frame.Frame.{Frame}
+use Rattle.s10_link.specs.declared.link_call.LinkCall.TheVariants as calls
 use Rattle.s10_link.specs.declared.link_fault.LinkFault.{LinkFault}
 use Rattle.s10_link.specs.declared.link_fault.LinkFault.TheVariants.{Bind, Receive, Send, Spent}
-use Rattle.s10_link.specs.Trace.{after_call, after_failure, after_datagram, IsAfterFrame}
+
+-- The trace of a link without calls.
+abbrev pub new_trace : Trace
+new_trace = []
 
 -- The result of a receive.
 abbrev pub ReceiveResult : Type 0
@@ -16,19 +20,21 @@ ReceiveResult = Result (Option (Peer × Packet)) LinkFault
 abbrev pub SendResult : Type 0
 SendResult = Result (Unit {0}) LinkFault
 
--- A receive with this result leads from the old trace to the new one.
+-- A receive with this result leads from the old trace to the new one: it adds one call, with exactly
+-- the datagram that it returns and its sender.
 abbrev pub Receives : Trace → Trace → ReceiveResult → Type 0
-Receives old new (Ok None) = new ≡ after_call old
-Receives old new (Ok (Some p)) = new ≡ after_datagram old p
-Receives old new (Err Receive) = new ≡ after_failure old
-Receives old new (Err Spent) = (new ≡ old) × (old.calls ≡ 2 ^ 64 - 1)
+Receives old new (Ok None) = new ≡ old ++ calls.Quiet ∷ []
+Receives old new (Ok (Some p)) = new ≡ old ++ calls.Received p.0 p.1 ∷ []
+Receives old new (Err Receive) = new ≡ old ++ calls.FailedReceive ∷ []
+Receives old new (Err Spent) = (new ≡ old) × (length old ≡ 2 ^ 64 - 1)
 Receives old new (Err Bind) = ⊥
 Receives old new (Err Send) = ⊥
 
--- A send of a frame to a peer with this result leads from the old trace to the new one.
+-- A send of a frame to a peer with this result leads from the old trace to the new one: it adds one
+-- call, with exactly this frame and this peer.
 abbrev pub Sends : Trace → Trace → Peer × Frame → SendResult → Type 0
-Sends old new p (Ok _) = IsAfterFrame old new p
-Sends old new p (Err Send) = new ≡ after_failure old
+Sends old new p (Ok _) = new ≡ old ++ calls.Sent p.0 p.1 ∷ []
+Sends old new p (Err Send) = new ≡ old ++ calls.FailedSend p.0 p.1 ∷ []
 Sends old new p (Err Spent) = new ≡ old
 Sends old new p (Err Bind) = ⊥
 Sends old new p (Err Receive) = ⊥

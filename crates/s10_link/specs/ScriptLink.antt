@@ -1,5 +1,5 @@
 -- How a scripted link follows its script.
-use Rattle.std.specs.Prelude.{◌≡◌, ◌⊎◌, ◌-◌, ◌^◌, ◌<◌, Some, None, Ok, Err, List, [], ◌∷◌, ◌++◌, Bool}
+use Rattle.std.specs.Prelude.{◌≡◌, ◌⊎◌, ◌-◌, ◌^◌, ◌<◌, length, Some, None, Ok, Err, List, [], ◌∷◌, ◌++◌, Bool}
 use Rattle.std.specs.Prelude.{true, false}
 use Rattle.s10_link.specs.declared.receipt.Receipt.{Receipt}
 use Rattle.s10_link.specs.declared.receipt.Receipt.TheVariants.{Deliver, Nothing, Fail}
@@ -18,7 +18,7 @@ pub record Script : Type 0 where
 
 -- No send is left: the calls are at their end, or the script has no send left.
 abbrev pub HasNoSend : Script → Type 0
-HasNoSend link = (link.trace.calls ≡ 2 ^ 64 - 1) ⊎ (link.sends ≡ [])
+HasNoSend link = (length link.trace ≡ 2 ^ 64 - 1) ⊎ (link.sends ≡ [])
 
 -- The result of a receive with this receipt.
 abbrev pub result_of : Receipt → ReceiveResult
@@ -45,7 +45,7 @@ log_after log p (Err _) = log
 -- A receive follows the script: it takes from the receipts and changes neither the sends nor the
 -- log.
 pub record FollowsReceipts (old new : Script) (result : ReceiveResult) : Type 0 where
-  pub receipts : old.trace.calls < 2 ^ 64 - 1 → TakesReceipt old.receipts new.receipts result
+  pub receipts : length old.trace < 2 ^ 64 - 1 → TakesReceipt old.receipts new.receipts result
   pub spent : result ≡ Err Spent → new.receipts ≡ old.receipts
   pub sends : new.sends ≡ old.sends
   pub log : new.log ≡ old.log
@@ -53,7 +53,7 @@ pub record FollowsReceipts (old new : Script) (result : ReceiveResult) : Type 0 
 -- A send follows the script: it takes from the sends, logs its frame if it succeeds, and leaves the
 -- receipts.
 pub record FollowsSends (old new : Script) (p : Peer × Frame) (result : SendResult) : Type 0 where
-  pub sends : old.trace.calls < 2 ^ 64 - 1 → TakesSend old.sends new.sends result
+  pub sends : length old.trace < 2 ^ 64 - 1 → TakesSend old.sends new.sends result
   pub spent : result ≡ Err Spent → new.sends ≡ old.sends
   pub receipts : new.receipts ≡ old.receipts
   pub log : new.log ≡ log_after old.log p result

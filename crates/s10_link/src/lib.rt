@@ -2,8 +2,10 @@
 //! link over a UDP socket.
 #![tactic(auto)]
 
+mod counts;
 mod laws;
 mod link;
+mod link_call;
 mod link_fault;
 mod packet;
 mod peer;
@@ -12,8 +14,10 @@ mod script_link;
 mod trace;
 mod udp_link;
 
+pub use counts::Counts;
 pub use laws::datagrams_fit;
 pub use link::Link;
+pub use link_call::LinkCall;
 pub use link_fault::LinkFault;
 pub use packet::Packet;
 pub use peer::Peer;

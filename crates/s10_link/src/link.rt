@@ -3,16 +3,17 @@
 ghost use Rattle.std.specs.Prelude.{◌≡◌, ⊤, Err};
 ghost use Rattle.s10_link.specs.declared.trace.Trace.{Trace};
 ghost use Rattle.s10_link.specs.Link.{Receives, Sends};
+ghost use Rattle.s10_link.specs.Counts.{counts_of};
 
+use crate::counts::Counts;
 use crate::link_fault::LinkFault;
 use crate::packet::Packet;
 use crate::peer::Peer;
-use crate::trace::Trace;
 use s10_wire::Frame;
 
 /// An end of an unreliable network: it may lose, repeat or reorder datagrams.
 pub trait Link {
-    /// The trace of the link.
+    /// The trace of the link: its calls since it was created, in order, each with what it carried.
     ghost trace_of: { Self → Trace };
 
     /// How one call may change the link, besides its trace.
@@ -52,7 +53,7 @@ pub trait Link {
         ensures spent { result ≡ Err LinkFault.Spent → spent self.old }
         ensures step { step self.old self.new };
 
-    /// Returns the trace of the link: its calls since it was created.
-    fn trace(&self) -> Trace
-        ensures { result ≡ trace_of self.now };
+    /// Returns how many calls the link had since it was created.
+    fn counts(&self) -> Counts
+        ensures { result ≡ counts_of (trace_of self.now) };
 }

@@ -1,6 +1,8 @@
 //! A link that follows a script, for tests.
 
+use crate::counts::Counts;
 use crate::link::Link;
+use crate::link_call::LinkCall;
 use crate::link_fault::LinkFault;
 use crate::packet::Packet;
 use crate::peer::Peer;
@@ -23,7 +25,6 @@ pub struct ScriptLink {
 
 impl Model for ScriptLink {
     ghost use Rattle.std.specs.Prelude.{◌+◌, ◌≤◌, drop, vec_len, vec_capacity};
-    ghost use Rattle.s10_link.specs.Trace.{IsCounted};
     ghost use Rattle.s10_link.specs.ScriptLink.{Script};
 
     ghost Value = { Script };
@@ -35,13 +36,13 @@ impl Model for ScriptLink {
       trace = link.trace;
     } };
 
-    ghost invariant = { λ link. IsCounted link.trace × (link.next_send ≤ vec_len link.sends)
+    ghost invariant = { λ link. (link.next_send ≤ vec_len link.sends)
         × (vec_len link.log + vec_len link.sends ≤ vec_capacity link.log + link.next_send) };
 }
 
 impl ScriptLink {
     ghost use Rattle.std.specs.Prelude.{◌≡◌, [], IfOk};
-    ghost use Rattle.s10_link.specs.Trace.{new_trace};
+    ghost use Rattle.s10_link.specs.Link.{new_trace};
     ghost use Rattle.s10_link.specs.ScriptLink.{Script};
 
     /// Creates a link from the results of its receives and of its sends, in order.
@@ -97,25 +98,25 @@ impl Link for ScriptLink {
         ensures trace { Receives self.old.trace self.new.trace result }
         ensures script { FollowsReceipts self.old self.new result }
     {
-        if self.trace.calls == u64::MAX {
+        if self.trace.is_full() {
             return Err(LinkFault::Spent);
         }
         let Some(receipt) = self.receipts.get(self.next_receipt).copied() else {
-            self.trace.count_call();
+            self.trace.add(LinkCall::Quiet);
             return Ok(None);
         };
         self.next_receipt += 1;
         match receipt {
             Receipt::Deliver(from, packet) => {
-                self.trace.count_datagram(from, &packet);
+                self.trace.add(LinkCall::Received(from, packet));
                 Ok(Some((from, packet)))
             }
             Receipt::Nothing => {
-                self.trace.count_call();
+                self.trace.add(LinkCall::Quiet);
                 Ok(None)
             }
             Receipt::Fail => {
-                self.trace.count_failure();
+                self.trace.add(LinkCall::FailedReceive);
                 Err(LinkFault::Receive)
             }
         }
@@ -134,22 +135,22 @@ impl Link for ScriptLink {
         ensures script { FollowsSends self.old self.new (to, frame.now) result }
         ensures spent { result ≡ Err LinkFault.Spent → HasNoSend self.old }
     {
-        if self.trace.calls == u64::MAX || self.next_send == self.sends.len() {
+        if self.trace.is_full() || self.next_send == self.sends.len() {
             return Err(LinkFault::Spent);
         }
         let passes = self.sends[self.next_send];
         self.next_send += 1;
         if passes {
             self.log.push_reserved((to, *frame));
-            self.trace.count_send(to, frame);
+            self.trace.add(LinkCall::Sent(to, *frame));
             Ok(())
         } else {
-            self.trace.count_failure();
+            self.trace.add(LinkCall::FailedSend(to, *frame));
             Err(LinkFault::Send)
         }
     }
 
-    fn trace(&self) -> Trace {
-        self.trace
+    fn counts(&self) -> Counts {
+        self.trace.counts()
     }
 }

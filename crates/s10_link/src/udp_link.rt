@@ -5,7 +5,9 @@ ghost use Rattle.std.specs.Net.Addr.{ipv4_octets};
 ghost use Rattle.std.specs.Net.Socket.{v4_ip, v4_port};
 ghost use Rattle.s10_link.specs.UdpLink.{IsBoundAt};
 
+use crate::counts::Counts;
 use crate::link::Link;
+use crate::link_call::LinkCall;
 use crate::link_fault::LinkFault;
 use crate::packet::Packet;
 use crate::peer::Peer;
@@ -33,20 +35,16 @@ pub struct UdpLink {
 }
 
 impl Model for UdpLink {
-    ghost use Rattle.s10_link.specs.Trace.{IsCounted};
     ghost use Rattle.s10_link.specs.UdpLink.{BoundLink};
 
     ghost Value = { BoundLink };
 
     ghost view = { λ link. record { at = link.at; trace = link.trace } };
-
-    ghost invariant = { λ link. IsCounted link.trace };
 }
 
 impl UdpLink {
-    ghost use Rattle.std.specs.Prelude.{◌≡◌, ◌-◌, ◌^◌, ◌<◌, IfOk, IfErr};
-    ghost use Rattle.s10_link.specs.Trace.{new_trace};
-    ghost use Rattle.s10_link.specs.Link.{Receives};
+    ghost use Rattle.std.specs.Prelude.{◌≡◌, ◌-◌, ◌^◌, ◌<◌, length, IfOk, IfErr};
+    ghost use Rattle.s10_link.specs.Link.{Receives, new_trace};
     ghost use Rattle.s10_link.specs.UdpLink.{IsBoundAt};
 
     /// Binds a socket to the address `at`; with port 0 the system picks a port.
@@ -116,27 +114,27 @@ impl UdpLink {
         Ok(())
     }
 
-    // Counts a receive in the trace, by its result.
-    fn count_receive(
+    // Adds a receive to the trace, by its result.
+    fn trace_receive(
         &mut self,
         came: io::Result<Option<(Peer, Packet)>>,
     ) -> Result<Option<(Peer, Packet)>, LinkFault>
-        requires room { self.old.trace.calls < 2 ^ 64 - 1 }
+        requires room { length self.old.trace < 2 ^ 64 - 1 }
         ensures trace { Receives self.old.trace self.new.trace result }
         ensures at { self.new.at ≡ self.old.at }
     {
         match came {
             Ok(Some((from, packet))) => {
-                self.trace.count_datagram(from, &packet);
+                self.trace.add(LinkCall::Received(from, packet));
                 Ok(Some((from, packet)))
             }
             Ok(None) => {
-                self.trace.count_call();
+                self.trace.add(LinkCall::Quiet);
                 Ok(None)
             }
             Err(cause) => {
                 self.failure = Some(cause);
-                self.trace.count_failure();
+                self.trace.add(LinkCall::FailedReceive);
                 Err(LinkFault::Receive)
             }
         }
@@ -159,61 +157,61 @@ impl UdpLink {
 }
 
 impl Link for UdpLink {
-    ghost use Rattle.std.specs.Prelude.{◌≡◌, ◌-◌, ◌^◌, Err};
+    ghost use Rattle.std.specs.Prelude.{◌≡◌, ◌-◌, ◌^◌, length, Err};
     ghost use Rattle.s10_link.specs.Link.{Receives, Sends};
 
     ghost trace_of = { λ link. link.trace };
 
     ghost step = { λ old new. new.at ≡ old.at };
 
-    ghost spent = { λ link. link.trace.calls ≡ 2 ^ 64 - 1 };
+    ghost spent = { λ link. length link.trace ≡ 2 ^ 64 - 1 };
 
     fn receive(&mut self) -> Result<Option<(Peer, Packet)>, LinkFault>
         ensures trace { Receives self.old.trace self.new.trace result }
         ensures step { self.new.at ≡ self.old.at }
     {
-        if self.trace.calls == u64::MAX {
+        if self.trace.is_full() {
             return Err(LinkFault::Spent);
         }
         let came = self.awaited_datagram();
-        self.count_receive(came)
+        self.trace_receive(came)
     }
 
     fn try_receive(&mut self) -> Result<Option<(Peer, Packet)>, LinkFault>
         ensures trace { Receives self.old.trace self.new.trace result }
         ensures step { self.new.at ≡ self.old.at }
     {
-        if self.trace.calls == u64::MAX {
+        if self.trace.is_full() {
             return Err(LinkFault::Spent);
         }
         let came = self.waiting_datagram();
-        self.count_receive(came)
+        self.trace_receive(came)
     }
 
     fn send(&mut self, to: Peer, frame: &Frame) -> Result<(), LinkFault>
         ensures trace { Sends self.old.trace self.new.trace (to, frame.now) result }
-        ensures spent { result ≡ Err LinkFault.Spent → self.old.trace.calls ≡ 2 ^ 64 - 1 }
+        ensures spent { result ≡ Err LinkFault.Spent → length self.old.trace ≡ 2 ^ 64 - 1 }
         ensures step { self.new.at ≡ self.old.at }
     {
-        if self.trace.calls == u64::MAX {
+        if self.trace.is_full() {
             return Err(LinkFault::Spent);
         }
         let bytes = frame.bytes();
         match self.socket.send_to(bytes, SocketAddr::V4(address(to))) {
             Ok(len) if len == bytes.len() => {
-                self.trace.count_send(to, frame);
+                self.trace.add(LinkCall::Sent(to, *frame));
                 Ok(())
             }
             sent => {
                 self.failure = sent.err();
-                self.trace.count_failure();
+                self.trace.add(LinkCall::FailedSend(to, *frame));
                 Err(LinkFault::Send)
             }
         }
     }
 
-    fn trace(&self) -> Trace {
-        self.trace
+    fn counts(&self) -> Counts {
+        self.trace.counts()
     }
 }
 

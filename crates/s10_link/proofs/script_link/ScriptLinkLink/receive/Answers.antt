@@ -3,89 +3,56 @@ use Rattle.s10_link.specs.ScriptLink.{result_of}
 use Rattle.s10_link.proofs.Scripts.{takes_receipt, receipt_at}
 use Rattle.s10_link.proofs.script_link.ScriptLinkLink.receive.Goals as goal
 
-pub returns-then-self-clause-trace : goal.returns-then-self-clause-trace
-returns-then-self-clause-trace c = rw (← c.self.view_is) (refl, c.if-self.true)
+pub returns-then-is_full-clause-trace : goal.returns-then-is_full-clause-trace
+returns-then-is_full-clause-trace c = rw (← c.self.view_is) (
+  refl,
+  c.is_full.ensures.full c.if-is_full.true,
+)
 
-pub returns-then-self-clause-script : goal.returns-then-self-clause-script
-returns-then-self-clause-script c =
+pub returns-then-is_full-clause-script : goal.returns-then-is_full-clause-script
+returns-then-is_full-clause-script c =
     rw (← c.self.view_is) (record {
-      receipts = λ left. absurd (omega (arith, c.if-self.true));
+      receipts = λ left. absurd (omega (arith, c.is_full.ensures.full c.if-is_full.true));
       spent = λ _. refl;
       sends = refl;
       log = refl;
     })
 
-pub count_call-requires-clause-counted :
-    goal.count_call-requires-clause-counted
-count_call-requires-clause-counted c = c.self.invariant.0
-
-pub count_call-requires-clause-room : goal.count_call-requires-clause-room
-count_call-requires-clause-room c = omega arith
+pub add-requires : goal.add-requires
+add-requires c = c.is_full.ensures.room c.if-is_full.false
 
 pub invariant_of-self : goal.invariant_of-self
-invariant_of-self c = (
-  c.count_call.ensures.counted,
-  c.self.invariant.1,
-  c.self.invariant.2,
-)
+invariant_of-self c = c.self.invariant
 
 pub returns-in_default-clause-trace : goal.returns-in_default-clause-trace
-returns-in_default-clause-trace c = rw (← c.self.view_is) c.count_call.ensures.trace
+returns-in_default-clause-trace c = rw (← c.self.view_is) c.add.ensures
 
-pub count_datagram-requires-clause-counted :
-    goal.count_datagram-requires-clause-counted
-count_datagram-requires-clause-counted c = c.self.invariant.0
-
-pub count_datagram-requires-clause-room :
-    goal.count_datagram-requires-clause-room
-count_datagram-requires-clause-room c = omega arith
+pub add-requires-in-Deliver : goal.add-requires-in-Deliver
+add-requires-in-Deliver c = c.is_full.ensures.room c.if-is_full.false
 
 pub invariant_of-self-in-Deliver : goal.invariant_of-self-in-Deliver
-invariant_of-self-in-Deliver c = (
-  c.count_datagram.ensures.counted,
-  c.self.invariant.1,
-  c.self.invariant.2,
-)
+invariant_of-self-in-Deliver c = c.self.invariant
 
 pub returns-in-Deliver-clause-trace : goal.returns-in-Deliver-clause-trace
-returns-in-Deliver-clause-trace c = rw (← c.self.view_is) c.count_datagram.ensures.trace
+returns-in-Deliver-clause-trace c = rw (← c.self.view_is) c.add-in-Deliver.ensures
 
-pub count_call-requires-in-Nothing-clause-counted :
-    goal.count_call-requires-in-Nothing-clause-counted
-count_call-requires-in-Nothing-clause-counted c = c.self.invariant.0
-
-pub count_call-requires-in-Nothing-clause-room :
-    goal.count_call-requires-in-Nothing-clause-room
-count_call-requires-in-Nothing-clause-room c = omega arith
+pub add-requires-in-Nothing : goal.add-requires-in-Nothing
+add-requires-in-Nothing c = c.is_full.ensures.room c.if-is_full.false
 
 pub invariant_of-self-in-Nothing : goal.invariant_of-self-in-Nothing
-invariant_of-self-in-Nothing c = (
-  c.count_call-in-Nothing.ensures.counted,
-  c.self.invariant.1,
-  c.self.invariant.2,
-)
+invariant_of-self-in-Nothing c = c.self.invariant
 
 pub returns-in-Nothing-clause-trace : goal.returns-in-Nothing-clause-trace
-returns-in-Nothing-clause-trace c =
-    rw (← c.self.view_is) c.count_call-in-Nothing.ensures.trace
+returns-in-Nothing-clause-trace c = rw (← c.self.view_is) c.add-in-Nothing.ensures
 
-pub count_failure-requires-clause-counted :
-    goal.count_failure-requires-clause-counted
-count_failure-requires-clause-counted c = c.self.invariant.0
-
-pub count_failure-requires-clause-room :
-    goal.count_failure-requires-clause-room
-count_failure-requires-clause-room c = omega arith
+pub add-requires-in-Fail : goal.add-requires-in-Fail
+add-requires-in-Fail c = c.is_full.ensures.room c.if-is_full.false
 
 pub invariant_of-self-in-Fail : goal.invariant_of-self-in-Fail
-invariant_of-self-in-Fail c = (
-  c.count_failure.ensures.counted,
-  c.self.invariant.1,
-  c.self.invariant.2,
-)
+invariant_of-self-in-Fail c = c.self.invariant
 
 pub returns-in-Fail-clause-trace : goal.returns-in-Fail-clause-trace
-returns-in-Fail-clause-trace c = rw (← c.self.view_is) c.count_failure.ensures.trace
+returns-in-Fail-clause-trace c = rw (← c.self.view_is) c.add-in-Fail.ensures
 
 pub returns-in-Deliver-clause-script : goal.returns-in-Deliver-clause-script
 returns-in-Deliver-clause-script c =
