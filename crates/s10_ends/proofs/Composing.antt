@@ -18,8 +18,8 @@ use Rattle.s10_ends.specs.declared.exchange.Exchange.{Exchange}
 use Rattle.s10_ends.specs.declared.server_turn.ServerTurn.TheVariants as turns
 use Rattle.s10_ends.specs.Served.{Dated, IsOwed, Served}
 use Rattle.s10_ends.specs.Turn.{Turn, Handles}
-use Rattle.s10_ends.specs.Batch.{ReceivesAll, ServesBatch, IsOwedReply, CommitsIfPending}
-use Rattle.s10_ends.specs.Batch.ReceivesAll.{none as taken_none, more as taken_more}
+use Rattle.s10_ends.specs.Batch.{HandlesAll, IsOwedReply, CommitsIfPending}
+use Rattle.s10_ends.specs.Batch.HandlesAll.{none as handled_none, more as handled_more}
 use Rattle.s10_ends.specs.Composed.{DatedBatch, BatchesLead, turns_in, IsBatch, deliveries_in, answers_in}
 use Rattle.s10_ends.specs.Composed.{ServesAll}
 use Rattle.s10_ends.proofs.Whole.{Served-nil, Served-push, IsOwed-more}
@@ -61,11 +61,11 @@ module _ {B : Type 0} (faults : B → Faults) (honest : B → Type 0) (terms : B
       b answer
 
   -- A book that is honest after the datagrams was honest before them.
-  pub honest_taken : (day : ℕ) (old new : Trace × B) (ts : List Exchange)
-      → ReceivesAll (Handled day) old ts new → honest new.1 → honest old.1
-  honest_taken day old _ _ taken_none h = h
-  honest_taken day old new _ (taken_more {between = between} takes count_receive) h =
-      honest_taken day old between _ takes (count_receive.1.was_honest h)
+  pub honest_taken : (day : ℕ) (old new : B) (ts : List Exchange)
+      → HandlesAll (Handled day) old ts new → honest new → honest old
+  honest_taken day old _ _ handled_none h = h
+  honest_taken day old new _ (handled_more {between = between} next takes one) h =
+      honest_taken day old between _ takes (one.was_honest h)
 
   pub honest_answered : (between new : B) (ts : List Exchange)
       (commit_result : Result (Unit {0}) BookFault)
@@ -78,10 +78,8 @@ module _ {B : Type 0} (faults : B → Faults) (honest : B → Type 0) (terms : B
   pub honest_batch : (old new : Trace × B) (batch : DatedBatch) → IsBatch faults honest terms history
       committed clean may_find old batch new → honest new.1 → honest old.1
   honest_batch old new batch (most, it) h =
-      let between = honest_answered it.between.1 new.1 it.taken it.answers.commit_result
-      it.answers.commits h in
-      honest_taken batch.day old it.takes.handled it.taken it.takes.takes
-      (subst honest it.takes.same between)
+      honest_taken batch.day old.1 it.between.1 batch.taken it.takes.handles
+      (honest_answered it.between.1 new.1 batch.taken it.answers.commit_result it.answers.commits h)
 
   pub honest_batches : (old new : Trace × B) (batches : List DatedBatch)
       → BatchesLead (IsBatch faults honest terms history committed clean may_find) old batches
@@ -129,24 +127,24 @@ module _ {B : Type 0} (faults : B → Faults) (honest : B → Type 0) (terms : B
               (one.stays_committed h);
         }
 
-    pub upto_taken : (day : ℕ) (ds : List Dated) (ans : List Answer) (old new : Trace × B)
-        (ts : List Exchange) → ReceivesAll (Handled day) old ts new → honest new.1
-        → Upto ds ans old.1
-        → Upto (ds ++ packets day ts) (ans ++ answers_of ts) new.1
-    upto_taken day ds ans old _ _ taken_none h upto = of_lists ds (ds ++ []) ans (ans ++ []) old.1
+    pub upto_taken : (day : ℕ) (ds : List Dated) (ans : List Answer) (old new : B)
+        (ts : List Exchange) → HandlesAll (Handled day) old ts new → honest new
+        → Upto ds ans old
+        → Upto (ds ++ packets day ts) (ans ++ answers_of ts) new
+    upto_taken day ds ans old _ _ handled_none h upto = of_lists ds (ds ++ []) ans (ans ++ []) old
         (append-nil ds) (append-nil ans) upto
-    upto_taken day ds ans old new _ (taken_more {between = between} {taken = ts} {next = next} takes
-        count_receive) h upto =
+    upto_taken day ds ans old new _ (handled_more {between = between} {taken = ts} next takes
+        one) h upto =
         of_lists ((ds ++ packets day ts) ++ (next.packet, day) ∷ [])
         (ds ++ packets day (ts ++ next ∷ [])) ((ans ++ answers_of ts) ++ next.answer ∷ [])
-        (ans ++ answers_of (ts ++ next ∷ [])) new.1
+        (ans ++ answers_of (ts ++ next ∷ [])) new
         (ap (λ (l : List Dated). ds ++ l) (map-append (λ (t : Exchange). (t.packet, day)) ts
         (next ∷ [])) ∙ sym (append_assoc ds (packets day ts) ((next.packet, day) ∷ [])))
         (ap (λ (l : List Answer). ans ++ l) (map-append (λ (t : Exchange). t.answer) ts (next ∷ []))
         ∙ sym (append_assoc ans (answers_of ts) (next.answer ∷ [])))
-        (upto_handled day (ds ++ packets day ts) (ans ++ answers_of ts) between.1 new.1 next.packet
-        next.answer count_receive.1 h (upto_taken day ds ans old between ts takes
-        (count_receive.1.was_honest h) upto))
+        (upto_handled day (ds ++ packets day ts) (ans ++ answers_of ts) between new next.packet
+        next.answer one h (upto_taken day ds ans old between ts takes
+        (one.was_honest h) upto))
 
     upto_answered : (ds : List Dated) (ans : List Answer) (between new : B) (ts : List Exchange)
         (commit_result : Result (Unit {0}) BookFault)
@@ -166,48 +164,35 @@ module _ {B : Type 0} (faults : B → Faults) (honest : B → Type 0) (terms : B
               (commits_some.stays_committed h);
         }
 
-    pub upto_batch : (ds : List Dated) (ans : List Answer) (day most : ℕ) (old new : Trace × B)
-        (batch : List Turn) (it : ServesBatch faults honest terms history committed clean may_find
-        day most old new
-        batch) → honest new.1 → Upto ds ans old.1
-        → Upto (ds ++ packets day it.taken) (ans ++ answers_of it.taken) new.1
-    upto_batch ds ans day most old new batch it h upto =
-        let between = honest_answered it.between.1 new.1 it.taken it.answers.commit_result
+    pub upto_batch : (ds : List Dated) (ans : List Answer) (old new : Trace × B) (batch : DatedBatch)
+        → IsBatch faults honest terms history committed clean may_find old batch new
+        → honest new.1 → Upto ds ans old.1
+        → Upto (ds ++ packets batch.day batch.taken) (ans ++ answers_of batch.taken) new.1
+    upto_batch ds ans old new batch (most, it) h upto =
+        let before = honest_answered it.between.1 new.1 batch.taken it.answers.commit_result
         it.answers.commits h in
-        let taken = upto_taken day ds ans old it.takes.handled it.taken it.takes.takes
-        (subst honest it.takes.same between) upto in
-        upto_answered (ds ++ packets day it.taken) (ans ++ answers_of it.taken) it.between.1 new.1
-        it.taken it.answers.commit_result it.answers.commits h
-        (upto_same (ds ++ packets day it.taken) (ans ++ answers_of it.taken) it.takes.handled.1
-        it.between.1 it.takes.same taken)
+        upto_answered (ds ++ packets batch.day batch.taken) (ans ++ answers_of batch.taken)
+        it.between.1 new.1 batch.taken it.answers.commit_result it.answers.commits h
+        (upto_taken batch.day ds ans old.1 it.between.1 batch.taken it.takes.handles before upto)
 
     pub upto_batches : (ds : List Dated) (ans : List Answer) (old new : Trace × B)
         (batches : List DatedBatch)
-        (lead : BatchesLead (IsBatch faults honest terms history committed clean may_find) old
-        batches new)
+        → BatchesLead (IsBatch faults honest terms history committed clean may_find) old batches new
         → honest new.1 → Upto ds ans old.1
-        → Upto (ds ++ deliveries_in faults honest terms history committed clean may_find old new
-        batches
-        lead) (ans ++ answers_in faults honest terms history committed clean may_find old new
-        batches
-        lead) new.1
-    unfolding BatchesLead deliveries_in answers_in
+        → Upto (ds ++ deliveries_in batches) (ans ++ answers_in batches) new.1
+    unfolding BatchesLead
     upto_batches ds ans old new [] same h upto =
         of_lists ds (ds ++ []) ans (ans ++ []) new.1 (append-nil ds) (append-nil ans)
         (subst (λ (s : Trace × B). Upto ds ans s.1) (sym same) upto)
-    upto_batches ds ans old new (batch ∷ batches) (next, (most, it), rest) h upto =
-        let more = deliveries_in faults honest terms history committed clean may_find next new
-        batches
-        rest in
-        let told = answers_in faults honest terms history committed clean may_find next new batches rest in
-        of_lists ((ds ++ packets batch.day it.taken) ++ more) (ds ++ (packets batch.day it.taken ++ more))
-        ((ans ++ answers_of it.taken) ++ told) (ans ++ (answers_of it.taken ++ told)) new.1
-        (sym (append_assoc ds (packets batch.day it.taken) more))
-        (sym (append_assoc ans (answers_of it.taken) told))
-        (upto_batches (ds ++ packets batch.day it.taken) (ans ++ answers_of it.taken) next new batches
-        rest
-        h (upto_batch ds ans batch.day most old next batch.turns it (honest_batches next new batches rest h)
-        upto))
+    upto_batches ds ans old new (batch ∷ batches) (next, one, rest) h upto =
+        let first = packets batch.day batch.taken in
+        let told = answers_of batch.taken in
+        of_lists ((ds ++ first) ++ deliveries_in batches) (ds ++ (first ++ deliveries_in batches))
+        ((ans ++ told) ++ answers_in batches) (ans ++ (told ++ answers_in batches)) new.1
+        (sym (append_assoc ds first (deliveries_in batches)))
+        (sym (append_assoc ans told (answers_in batches)))
+        (upto_batches (ds ++ first) (ans ++ told) next new batches rest h
+        (upto_batch ds ans old next batch one (honest_batches next new batches rest h) upto))
 
   pub here : (book : B) → Upto (history book) (terms book) (committed book) [] [] book
   here book = record {
@@ -218,39 +203,32 @@ module _ {B : Type 0} (faults : B → Faults) (honest : B → Type 0) (terms : B
 
   -- Every reply that was sent is owed to a delivery by the calls that are committed at the end.
   owe : (old new : Trace × B) (batches : List DatedBatch)
-      (lead : BatchesLead (IsBatch faults honest terms history committed clean may_find) old
-      batches new)
+      → BatchesLead (IsBatch faults honest terms history committed clean may_find) old batches new
       → honest new.1
-      → All (IsOwedReply (committed new.1) (deliveries_in faults honest terms history committed
-      clean may_find old
-      new batches lead)) (turns_in batches)
-  unfolding BatchesLead deliveries_in
+      → All (IsOwedReply (committed new.1) (deliveries_in batches)) (turns_in batches)
+  unfolding BatchesLead
   owe old new [] same h = All-nil (IsOwedReply (committed new.1) [])
   owe old new (batch ∷ batches) (next, (most, it), rest) h =
       let then = honest_batches next new batches rest h in
       let grew = (upto_batches (history next.1) (terms next.1) (committed next.1) [] [] next new
       batches rest h (here next.1)).stays_committed in
-      let first = packets batch.day it.taken in
-      let more = deliveries_in faults honest terms history committed clean may_find next new batches rest in
+      let first = packets batch.day batch.taken in
+      let more = deliveries_in batches in
       All-append (IsOwedReply (committed new.1) (first ++ more)) batch.turns (turns_in batches)
       (all_more (committed next.1) (committed new.1) first (first ++ more) batch.turns grew
       (λ d inside. Contains-append_left first more d inside)
-      (batch_owes faults honest terms history committed clean may_find batch.day most old next batch.turns it
-      then))
+      (batch_owes faults honest terms history committed clean may_find batch.day most old next
+      batch.taken batch.turns it then))
       (all_more (committed new.1) (committed new.1) more (first ++ more) (turns_in batches)
       (grows_none (committed new.1)) (λ d inside. Contains-append_right first more d inside)
       (owe next new batches rest h))
 
   pub all_composed : ((book : B) → honest book → IsLegal (history book) (terms book))
       → (old new : Trace × B) (batches : List DatedBatch)
-      (lead : BatchesLead (IsBatch faults honest terms history committed clean may_find) old
-      batches new)
+      → BatchesLead (IsBatch faults honest terms history committed clean may_find) old batches new
       → honest new.1
       → ServesAll faults honest terms history committed clean may_find old.1 new.1
-      (deliveries_in faults honest terms history committed clean may_find old new batches
-      lead)
-      (answers_in faults honest terms history committed clean may_find old new batches lead)
-      (turns_in batches)
+      (deliveries_in batches) (answers_in batches) (turns_in batches)
   all_composed legal old new batches lead h =
       let upto = upto_batches (history old.1) (terms old.1) (committed old.1) [] [] old new batches
       lead h (here old.1) in
@@ -261,8 +239,7 @@ module _ {B : Type 0} (faults : B → Faults) (honest : B → Type 0) (terms : B
         kept = KeepsPromises-legal (history new.1) (terms new.1) (legal new.1 h);
         issued = Served-issued _ _ _ _ _ upto.served;
         stays_committed = upto.stays_committed;
-        stands = all_sent (committed new.1) (deliveries_in faults honest terms history committed
-            clean may_find old
-            new batches lead) (turns_in batches) (owe old new batches lead h);
+        stands = all_sent (committed new.1) (deliveries_in batches) (turns_in batches)
+            (owe old new batches lead h);
         owed = owe old new batches lead h;
       }

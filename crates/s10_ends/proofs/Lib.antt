@@ -16,4 +16,5 @@ pub mod Near
 pub mod Standing
 pub mod Composing
 pub mod Stops
-pub mod ReceiveCount
+pub mod Sending
+pub mod Carrying

@@ -1,160 +1,98 @@
 -- Lemmas about the receives of one try of a call.
-use Rattle.std.proofs.Common.{◌≡◌, ◌≢◌, ℕ, false, true, ◌+◌, ◌<◌, ◌≤◌, List, Option, Some, Err}
-use Rattle.std.proofs.Common.{refl, sym, ap, ◌∙◌, subst, inl, inr, arith}
-use Rattle.std.specs.Prelude.{IsSome}
+use Rattle.std.proofs.Common.{◌≡◌, ◌≢◌, ℕ, false, true, ◌+◌, ◌<◌, List, [], ◌∷◌, ◌++◌, length, map}
+use Rattle.std.proofs.Common.{Option, Some, None, Ok, Err, refl, sym, ap, ◌∙◌, subst, inl, inr, arith}
+use Rattle.std.proofs.Common.{append-nil, append_assoc, length-append}
+use Rattle.std.specs.Prelude.{IsSome, All}
+use Rattle.std.proofs.lemmas.List.{map-append}
+use Rattle.std.proofs.lemmas.List.Elements.{All-nil, All-push}
 use Rattle.std.proofs.lemmas.Option.{same_Some}
 use Rattle.std.proofs.lemmas.Bool.{false≢true}
 use Rattle.s10_link.specs.declared.trace.Trace.{Trace}
 use Rattle.s10_link.specs.declared.peer.Peer.{Peer}
 use Rattle.s10_link.specs.declared.packet.Packet.{Packet}
+use Rattle.s10_link.specs.declared.link_call.LinkCall.TheVariants as calls
 use Rattle.s10_wire.specs.declared.request.Request.{Request}
 use Rattle.s10_wire.specs.declared.outcome.Outcome.{Outcome}
 use Rattle.s10_wire.specs.declared.reply.Reply.{Reply}
 use Rattle.s10_link.specs.declared.link_fault.LinkFault.{LinkFault}
-use Rattle.s10_link.specs.declared.link_fault.LinkFault.TheVariants.{Bind, Receive, Send, Spent}
 use Rattle.s10_wire.specs.Datagrams.{Replies}
-use Rattle.s10_link.specs.Trace.{after_call, after_datagram}
 use Rattle.s10_link.specs.Link.{Receives}
 use Rattle.s10_wire.proofs.Replied.{one_reply}
 use Rattle.s10_ends.specs.declared.received.Received.{Received}
 use Rattle.s10_ends.specs.declared.received.Received.TheVariants.{Malformed, Idle, NotMine}
 use Rattle.s10_ends.specs.declared.received.Received.TheVariants.{Accepted}
 use Rattle.s10_wire.specs.Reply.{request_of, outcome_of}
-use Rattle.s10_ends.specs.Client.{ClientState, ClientReceives, without_pending}
-use Rattle.s10_ends.specs.Calls.{Heard, TookAllBut, IsUnanswered, IsLastReply, failures_of}
+use Rattle.s10_ends.specs.Client.{ClientState, ClientReceives}
+use Rattle.s10_ends.specs.Calls.{after_datagrams, IsNoReply, Hears}
 
--- There were k receives, each of which got a datagram.
-pub record Hearing (old new : Trace) (k : ℕ) : Type 0 where
-  pub calls : new.calls ≡ old.calls + k
-  pub received : new.received ≡ old.received + k
-  pub failures : new.failures ≡ old.failures
-  pub sends : new.sends ≡ old.sends
-  pub given : new.given ≡ old.given
-  pub alike : new.alike ≡ old.alike
+-- k datagrams were received that are no reply to the pending request.
+pub record Hearing (c : ClientState) (t m : Trace) (k : ℕ) : Type 0 where
+  pub before : List (Peer × Packet)
+  pub received : m ≡ after_datagrams t before
+  pub count : length before ≡ k
+  pub none : (q : Request) → c.pending ≡ Some q → All (IsNoReply q) before
 
-pub hearing_none : (t : Trace) → Hearing t t 0
-hearing_none t = record {
-  calls = omega arith;
-  received = omega arith;
-  failures = refl;
-  sends = refl;
-  given = refl;
-  alike = refl;
+pub hearing_none : (c : ClientState) (t : Trace) → Hearing c t t 0
+hearing_none c t = record {
+  before = [];
+  received = sym (append-nil t);
+  count = refl;
+  none = λ q pends. All-nil (IsNoReply q);
 }
 
-pub hearing_datagram : (t m m' : Trace) (k : ℕ) (p : Peer × Packet) → Hearing t m k
-    → m' ≡ after_datagram m p → Hearing t m' (k + 1)
-hearing_datagram t m m' k p h is =
-    let calls : m'.calls ≡ m.calls + 1 = ap (λ (x : Trace). x.calls) is in
-    let received : m'.received ≡ m.received + 1 = ap (λ (x : Trace). x.received) is in
-    record {
-      calls = omega (arith, h.calls, calls);
-      received = omega (arith, h.received, received);
-      failures = ap (λ (x : Trace). x.failures) is ∙ h.failures;
-      sends = ap (λ (x : Trace). x.sends) is ∙ h.sends;
-      given = ap (λ (x : Trace). x.given) is ∙ h.given;
-      alike = ap (λ (x : Trace). x.alike) is ∙ h.alike;
-    }
-
-pub heard : (t m : Trace) (k : ℕ) → Hearing t m k → k ≤ 8 → Heard t m 0
-heard t m k h few = record {
-  most = omega (arith, h.calls);
-  failures = omega (arith, h.failures);
-  sends = h.sends;
-  given = h.given;
-  alike = h.alike;
-  received = omega (arith, h.received);
+pub hearing_datagram : (c : ClientState) (t m m' : Trace) (k : ℕ) (from : Peer) (packet : Packet)
+    → Hearing c t m k → m' ≡ m ++ calls.Received from packet ∷ []
+    → ((q : Request) → c.pending ≡ Some q → (o : Outcome) → ¬ (Replies packet q o))
+    → Hearing c t m' (k + 1)
+hearing_datagram c t m m' k from packet h is other = record {
+  before = h.before ++ (from, packet) ∷ [];
+  received = is ∙ ap (λ (x : Trace). x ++ calls.Received from packet ∷ []) h.received
+      ∙ append_assoc t (map (λ p. calls.Received p.0 p.1) h.before) (calls.Received from packet ∷ [])
+      ∙ ap (λ (x : Trace). t ++ x)
+      (sym (map-append (λ p. calls.Received p.0 p.1) h.before ((from, packet) ∷ [])));
+  count = omega (arith, length-append h.before ((from, packet) ∷ []), h.count);
+  none = λ q pends. All-push (IsNoReply q) h.before (from, packet) (h.none q pends) (other q pends);
 }
 
-pub took_all : (t m : Trace) (k : ℕ) → Hearing t m k → TookAllBut t m 0
-took_all t m k h = omega (arith, h.calls, h.received)
+module _ (c : ClientState) (t m : Trace) (k : ℕ) (h : Hearing c t m k) (q : Request)
+    (pends : c.pending ≡ Some q) where
+  -- A receive got nothing after k datagrams.
+  pub hears_quiet : (m' : Trace) → k < 8 → Receives m m' (Ok None) → Hears q t m' (Ok None)
+  hears_quiet m' few is = (
+    h.before,
+    h.none q pends,
+    inr (omega (arith, h.count), subst (λ x. Receives x m' (Ok None)) h.received is),
+  )
 
--- A receive got nothing after k datagrams.
-pub heard_quiet : (t m m' : Trace) (k : ℕ) → Hearing t m k → k < 8 → m' ≡ after_call m
-    → Heard t m' 0 × (t.calls < m'.calls) × TookAllBut t m' 1
-heard_quiet t m m' k h few is =
-    let calls : m'.calls ≡ m.calls + 1 = ap (λ (x : Trace). x.calls) is in
-    let received : m'.received ≡ m.received = ap (λ (x : Trace). x.received) is in
-    let failures : m'.failures ≡ m.failures = ap (λ (x : Trace). x.failures) is in (
-      record {
-        most = omega (arith, h.calls, calls);
-        failures = omega (arith, h.failures, failures);
-        sends = ap (λ (x : Trace). x.sends) is ∙ h.sends;
-        given = ap (λ (x : Trace). x.given) is ∙ h.given;
-        alike = ap (λ (x : Trace). x.alike) is ∙ h.alike;
-        received = omega (arith, h.received, received);
-      },
-      omega (arith, h.calls, calls),
-      omega (arith, h.calls, h.received, calls, received),
-    )
+  pub hears_eight : k ≡ 8 → Hears q t m (Ok None)
+  hears_eight all = (h.before, h.none q pends, inl (h.count ∙ all, h.received))
 
--- A receive failed after k datagrams.
-pub heard_refused : (t m m' : Trace) (k : ℕ) (fault : LinkFault) → Hearing t m k → k < 8
-    → Receives m m' (Err fault) → Heard t m' (failures_of fault)
-heard_refused t m m' k Receive h few refused =
-    let calls : m'.calls ≡ m.calls + 1 = ap (λ (x : Trace). x.calls) refused in
-    let failures : m'.failures ≡ m.failures + 1 = ap (λ (x : Trace). x.failures) refused in
-    let received : m'.received ≡ m.received = ap (λ (x : Trace). x.received) refused in
-    record {
-      most = omega (arith, h.calls, calls);
-      failures = omega (arith, h.failures, failures);
-      sends = ap (λ (x : Trace). x.sends) refused ∙ h.sends;
-      given = ap (λ (x : Trace). x.given) refused ∙ h.given;
-      alike = ap (λ (x : Trace). x.alike) refused ∙ h.alike;
-      received = omega (arith, h.received, received);
-    }
-heard_refused t m m' k Spent h few refused = let P : Trace → Type 0 = λ x. Heard t x 0 in
-    subst P (sym refused.0) (heard t m k h (omega arith))
-heard_refused t m m' k Send h few refused = absurd refused
-heard_refused t m m' k Bind h few refused = absurd refused
+  -- A receive failed after k datagrams.
+  pub hears_failed : (m' : Trace) (fault : LinkFault) → k < 8 → Receives m m' (Err fault)
+      → Hears q t m' (Err fault)
+  hears_failed m' fault few is = (
+    h.before,
+    h.none q pends,
+    (omega (arith, h.count), subst (λ x. Receives x m' (Err fault)) h.received is),
+  )
 
-pub took_all_refused : (t m m' : Trace) (k : ℕ) (fault : LinkFault) → Hearing t m k
-    → Receives m m' (Err fault) → TookAllBut t m' (failures_of fault)
-took_all_refused t m m' k Receive h refused =
-    let calls : m'.calls ≡ m.calls + 1 = ap (λ (x : Trace). x.calls) refused in
-    let received : m'.received ≡ m.received = ap (λ (x : Trace). x.received) refused in
-    omega (arith, h.calls, h.received, calls, received)
-took_all_refused t m m' k Spent h refused = let P : Trace → Type 0 = λ x. TookAllBut t x 0 in
-    subst P (sym refused.0) (took_all t m k h)
-took_all_refused t m m' k Send h refused = absurd refused
-took_all_refused t m m' k Bind h refused = absurd refused
-
--- A receive does not fail with Send.
-pub receive_not_send : (m m' : Trace) (fault : LinkFault) → Receives m m' (Err fault) → fault ≢ Send
-receive_not_send m m' Receive refused = λ wrong. cc
-receive_not_send m m' Spent refused = λ wrong. cc
-receive_not_send m m' Send refused = absurd refused
-receive_not_send m m' Bind refused = absurd refused
-
--- A receive does not fail with Bind.
-pub receive_not_bind : (m m' : Trace) (fault : LinkFault) → Receives m m' (Err fault) → fault ≢ Bind
-receive_not_bind m m' Receive refused = λ wrong. cc
-receive_not_bind m m' Spent refused = λ wrong. cc
-receive_not_bind m m' Send refused = absurd refused
-receive_not_bind m m' Bind refused = absurd refused
-
-pub unanswered_call : (t m m' : Trace) (pending : Option Request) → IsUnanswered t m pending
-    → m' ≡ after_call m → IsUnanswered t m' pending
-unanswered_call t m m' pending u is = let P : Trace → Type 0 = λ x. IsUnanswered t x pending in
-    subst P (sym is) u
-
-pub unanswered_datagram : (t m m' : Trace) (pending : Option Request) (from : Peer)
-    (packet : Packet) → IsUnanswered t m pending → m' ≡ after_datagram m (from, packet)
-    → ((q : Request) → pending ≡ Some q → (o : Outcome) → ¬ (Replies packet q o))
-    → IsUnanswered t m' pending
-unanswered_datagram t m m' pending from packet u is other =
-    let received : m'.received ≡ m.received + 1 = ap (λ (x : Trace). x.received) is in
-    let before : t.received ≤ m.received =
-    elim u [ inl w ↦ omega (arith, w.0) | inr w ↦ omega (arith, w.0) ] in
-    inr (
-      omega (arith, received, before),
-      λ q pends. (
-        from,
-        packet,
-        ap (λ (x : Trace). x.taken) is,
-        other q pends,
-      ),
-    )
+  -- A datagram was accepted after k others.
+  pub hears_reply : (c' : ClientState) (b : List ℕ) (m' : Trace) (from : Peer) (packet : Packet)
+      (reply : Reply) → k < 8 → m' ≡ m ++ calls.Received from packet ∷ [] → b ≡ packet
+      → (c.pending ≡ Some (request_of reply)) → Replies b (request_of reply) (outcome_of reply)
+      → Hears q t m' (Ok (Some reply))
+  hears_reply c' b m' from packet reply few is same own replies =
+      let asked : request_of reply ≡ q = same_Some (request_of reply) q (sym own ∙ pends) in (
+        h.before,
+        h.none q pends,
+        (
+          omega (arith, h.count),
+          (from, packet),
+          subst (λ x. Receives x m' (Ok (Some (from, packet)))) h.received is,
+          subst (λ x. Replies packet x (outcome_of reply)) asked
+              (subst (λ x. Replies x (request_of reply) (outcome_of reply)) same replies),
+        ),
+      )
 
 no_reply_to : (b : List ℕ) (q p : Request) (o : Outcome) → Replies b q o → p ≢ q → (o' : Outcome)
     → ¬ (Replies b p o')
@@ -189,16 +127,3 @@ unaccepted_packet c c0 b packet client is none =
     let Q : ClientState → Type 0 = λ s. (q : Request) → s.pending ≡ Some q → (o : Outcome)
     → ¬ (Replies b q o) in
     subst P is (subst Q client none)
-
--- A datagram that is accepted is the reply to the request that was pending.
-pub accepted_reply : (c0 c c' : ClientState) (b : List ℕ) (t : Trace) (from : Peer)
-    (packet : Packet) (reply : Reply) → c ≡ c0 → b ≡ packet → ClientReceives c b (Accepted reply) c'
-    → t.taken ≡ Some (from, packet) → (c0.pending ≡ Some (request_of reply))
-    × (c' ≡ without_pending c0) × IsLastReply t reply
-accepted_reply c0 c c' b t from packet reply client is accepted taken =
-    let P : List ℕ → Type 0 = λ x. Replies x (request_of reply) (outcome_of reply) in (
-      ap (λ (x : ClientState). x.pending) (sym client) ∙ accepted.0.0,
-      accepted.1
-          ∙ ap without_pending client,
-      (from, packet, taken, subst P is accepted.0.1),
-    )

@@ -15,7 +15,6 @@ use Rattle.s10_wire.proofs.Asked.{one_request}
 use Rattle.s10_link.specs.declared.trace.Trace.{Trace}
 use Rattle.s10_link.specs.declared.peer.Peer.{Peer}
 use Rattle.s10_link.specs.declared.link_fault.LinkFault.{LinkFault}
-use Rattle.s10_link.specs.Link.{SendResult}
 use Rattle.s10_history.specs.declared.entry.Entry.{Entry}
 use Rattle.s10_history.specs.Settings.{Terms}
 use Rattle.s10_history.specs.History.{find_entry}
@@ -27,13 +26,11 @@ use Rattle.s10_ends.specs.declared.answer.Answer.TheVariants.{Reply, Dropped, Fa
 use Rattle.s10_ends.specs.declared.exchange.Exchange.{Exchange}
 use Rattle.s10_ends.specs.declared.server_turn.ServerTurn.TheVariants as turns
 use Rattle.s10_ends.specs.Served.{Dated, AskNothing, GivesOutcome, IsOwed, IsAnswered, Served}
-use Rattle.s10_ends.specs.Turn.{Turn, Handles, AsksCommitted, SendsReply, WithholdsReply}
-use Rattle.s10_ends.specs.Turn.{Answers, sent_turn}
-use Rattle.s10_ends.specs.Batch.{ReceivesAll, AnswersAll, ServesBatch, IsSentCommitted}
+use Rattle.s10_ends.specs.Turn.{Turn, Handles, AsksCommitted, IsSentTurn, Answers}
+use Rattle.s10_ends.specs.Batch.{HandlesAll, ServesBatch, IsSentCommitted}
 use Rattle.s10_ends.specs.Batch.{IsOwedReply, is_reply, turns_of_batch, CommitsIfPending}
 use Rattle.s10_ends.specs.Batch.{HasCommittedReply, AllCommitted}
-use Rattle.s10_ends.specs.Batch.ReceivesAll.{none as taken_none, more as taken_more}
-use Rattle.s10_ends.specs.Batch.AnswersAll.{none as answered_none, more as answered_more}
+use Rattle.s10_ends.specs.Batch.HandlesAll.{none as handled_none, more as handled_more}
 use Rattle.s10_ends.proofs.Whole.{Served-nil, Served-push}
 
 -- The request in the bytes is committed if the call of that request is.
@@ -63,16 +60,6 @@ taken_answered h day [] all = All-nil (IsTakenAnswered h)
 taken_answered h day (t ∷ ts) all = All-cons (IsTakenAnswered h) t ts all.0
     (taken_answered h day ts all.1)
 
--- A property of all elements of a list with one more at its end holds for the first ones.
-first_of : {X : Type 0} (P : X → Type 0) (xs : List X) (x : X) → All P (xs ++ x ∷ []) → All P xs
-first_of P [] x all = All-nil P
-first_of P (y ∷ ys) x all = All-cons P y ys (All-head P y (ys ++ x ∷ []) all)
-    (first_of P ys x (All-tail P y (ys ++ x ∷ []) all))
-
-last_of : {X : Type 0} (P : X → Type 0) (xs : List X) (x : X) → All P (xs ++ x ∷ []) → P x
-last_of P [] x all = All-head P x [] all
-last_of P (y ∷ ys) x all = last_of P ys x (All-tail P y (ys ++ x ∷ []) all)
-
 -- Lemmas about one turn.
 module _ (Honest : Type 0) (committed h : List Entry) (ds : List Dated) (day : ℕ)
     (at : Honest) where
@@ -96,45 +83,36 @@ module _ (Honest : Type 0) (committed h : List Entry) (ds : List Dated) (day : �
   owed_stands b frame same owed = let P : List Entry → Type 0 = λ l. IsOwed l b frame in
       subst P (sym same) owed
 
-  by_result : (to : Peer) (frame : Frame) (r : SendResult) → Owes frame
-      → IsOwedReply committed ds (sent_turn to frame r)
-  by_result to frame (Ok _) is = is
-  by_result to frame (Err fault) is = tt
+  sent : (to : Peer) (frame : Frame) (turn : Turn) → IsSentTurn to frame turn → Owes frame
+      → IsOwedReply committed ds turn
+  sent to frame (Ok turn) sends is = subst (λ t. IsOwedReply committed ds (Ok t)) (sym sends) is
+  sent to frame (Err fault) sends is = tt
 
-  sent : (old new : Trace) (to : Peer) (frame : Frame) (turn : Turn)
-      → SendsReply old new to frame turn → Owes frame → IsOwedReply committed ds turn
-  sent old new to frame turn sends is = subst (IsOwedReply committed ds) (sym sends.2)
-      (by_result to frame sends.0 is)
+  told_is : (told turn : Turn) → turn ≡ told → IsOwedReply committed ds told
+      → IsOwedReply committed ds turn
+  told_is told turn is owed = subst (IsOwedReply committed ds) (sym is) owed
 
-  held : (old new : Trace) (fault : BookFault) (to : Peer) (turn : Turn)
-      → WithholdsReply old new to fault turn → IsOwedReply committed ds turn
-  held old new fault to turn holds = subst (IsOwedReply committed ds) (sym holds.1) tt
-
-  unasked : (old new : Trace) (told turn : Turn) → (new ≡ old) × (turn ≡ told)
-      → IsOwedReply committed ds told → IsOwedReply committed ds turn
-  unasked old new told turn is told_is = subst (IsOwedReply committed ds) (sym is.1) told_is
-
-  turn_stands : (old new : Trace) (commit_result : Result (Unit {0}) BookFault) (to : Peer)
+  turn_stands : (commit_result : Result (Unit {0}) BookFault) (to : Peer)
       (b : List ℕ) (answer : Answer) (turn : Turn)
       → (is_reply answer ≡ true → OnOk commit_result ((committed ≡ h) ⊎ Own b))
       → Contains ds (b, day) → IsAnswered h b answer
-      → Answers Honest Own old new commit_result to b answer turn
+      → Answers Honest Own commit_result to b answer turn
       → IsOwedReply committed ds turn
-  turn_stands old new (Ok _) to b (Reply frame) turn done inside owed answers =
-      sent old new to frame turn answers (
+  turn_stands (Ok _) to b (Reply frame) turn done inside owed answers =
+      sent to frame turn answers (
         (b, day),
         inside,
         ⊎_elim
             (λ same. owed_stands b frame same owed) (stands b frame owed) (done refl),
       )
-  turn_stands old new (Err fault) to b (Reply frame) turn done inside owed answers = elim answers [
-    | inl w ↦ sent old new to frame turn w.1 ((b, day), inside, stands b frame owed (w.0 at))
-    | inr w ↦ held old new fault to turn w.1
+  turn_stands (Err fault) to b (Reply frame) turn done inside owed answers = elim answers [
+    | inl w ↦ sent to frame turn w.1 ((b, day), inside, stands b frame owed (w.0 at))
+    | inr w ↦ told_is (Ok (turns.Uncommitted to fault)) turn w.1 tt
   ]
-  turn_stands old new commit_result to b (Dropped fault) turn done inside is answers =
-      unasked old new (Ok (turns.Dropped to fault)) turn answers tt
-  turn_stands old new commit_result to b (Faulted fault) turn done inside is answers =
-      unasked old new (Ok (turns.Faulted to fault)) turn answers tt
+  turn_stands commit_result to b (Dropped fault) turn done inside is answers =
+      told_is (Ok (turns.Dropped to fault)) turn answers tt
+  turn_stands commit_result to b (Faulted fault) turn done inside is answers =
+      told_is (Ok (turns.Faulted to fault)) turn answers tt
 
   -- The datagram is one of the deliveries.
   abbrev IsInside : Exchange → Type 0
@@ -145,22 +123,21 @@ module _ (Honest : Type 0) (committed h : List Entry) (ds : List Dated) (day : �
   IsDone commit_result t = is_reply t.answer ≡ true
       → OnOk commit_result ((committed ≡ h) ⊎ Own t.packet)
 
-  all_stand : (commit_result : Result (Unit {0}) BookFault) (old new : Trace) (ts : List Exchange)
+  all_stand : (commit_result : Result (Unit {0}) BookFault) (ts : List Exchange)
       (answered : List Turn) → All (IsDone commit_result) ts
       → All (IsTakenAnswered h) ts → All IsInside ts
-      → AnswersAll Honest Own commit_result old ts answered new
+      → AllZip (λ t turn. Answers Honest Own commit_result t.from t.packet t.answer turn) ts answered
       → All (IsOwedReply committed ds) answered
-  all_stand commit_result old _ _ _ done owed inside answered_none =
-      All-nil (IsOwedReply committed ds)
-  all_stand commit_result old new _ _ done owed inside (answered_more {between = between}
-      {taken = ts} {answered = answered} next turn before answers) =
-      All-push (IsOwedReply committed ds) answered turn
-      (all_stand commit_result old between ts answered (first_of (IsDone commit_result) ts next
-      done)
-      (first_of (IsTakenAnswered h) ts next owed) (first_of IsInside ts next inside) before)
-      (turn_stands between new commit_result next.from next.packet next.answer turn
-      (last_of (IsDone commit_result) ts next done) (last_of IsInside ts next inside)
-      (last_of (IsTakenAnswered h) ts next owed) answers)
+  all_stand commit_result [] [] done owed inside all = All-nil (IsOwedReply committed ds)
+  all_stand commit_result [] (turn ∷ answered) done owed inside all = absurd all
+  all_stand commit_result (t ∷ ts) [] done owed inside all = absurd all
+  all_stand commit_result (t ∷ ts) (turn ∷ answered) done owed inside all =
+      All-cons (IsOwedReply committed ds) turn answered
+      (turn_stands commit_result t.from t.packet t.answer turn
+      (All-head (IsDone commit_result) t ts done) (All-head IsInside t ts inside)
+      (All-head (IsTakenAnswered h) t ts owed) all.0)
+      (all_stand commit_result ts answered (All-tail (IsDone commit_result) t ts done)
+      (All-tail (IsTakenAnswered h) t ts owed) (All-tail IsInside t ts inside) all.1)
 
   -- After a commit, or over exchanges whose replies are to committed calls.
   done_by_commit : (commit_result : Result (Unit {0}) BookFault) (ts : List Exchange)
@@ -222,25 +199,24 @@ module _ {B : Type 0} (faults : B → Faults) (honest : B → Type 0) (terms : B
     pub same_terms : terms new ≡ terms old
     pub served : Served (history old) (terms old) (packets ts) (answers_of ts) (history new)
 
-  serves_taken : (old new : Trace × B) (ts : List Exchange) → ReceivesAll Handled old ts new
-      → honest new.1 → ServesTaken old.1 new.1 ts
-  serves_taken old _ _ taken_none h =
-      record { same_terms = refl; served = Served-nil (history old.1) (terms old.1) }
-  serves_taken old new _ (taken_more {between = between} {taken = ts} {next = next} takes
-      count_receive) h =
-      let one = count_receive.1 in
+  serves_taken : (old new : B) (ts : List Exchange) → HandlesAll Handled old ts new
+      → honest new → ServesTaken old new ts
+  serves_taken old _ _ handled_none h =
+      record { same_terms = refl; served = Served-nil (history old) (terms old) }
+  serves_taken old new _ (handled_more {between = between} {taken = ts} next takes
+      one) h =
       let before = serves_taken old between ts takes (one.was_honest h) in
-      let P : Terms → Type 0 = λ t. Served (history between.1) t ((next.packet, day) ∷ [])
-      (next.answer ∷ []) (history new.1) in
-      let Q : List Dated → Type 0 = λ ds. Served (history old.1) (terms old.1) ds
-      (answers_of (ts ++ next ∷ [])) (history new.1) in
-      let R : List Answer → Type 0 = λ answers. Served (history old.1) (terms old.1)
-      (packets ts ++ (next.packet, day) ∷ []) answers (history new.1) in
+      let P : Terms → Type 0 = λ t. Served (history between) t ((next.packet, day) ∷ [])
+      (next.answer ∷ []) (history new) in
+      let Q : List Dated → Type 0 = λ ds. Served (history old) (terms old) ds
+      (answers_of (ts ++ next ∷ [])) (history new) in
+      let R : List Answer → Type 0 = λ answers. Served (history old) (terms old)
+      (packets ts ++ (next.packet, day) ∷ []) answers (history new) in
       record {
         same_terms = one.same_terms h ∙ before.same_terms;
         served = subst Q (sym (map-append (λ (t : Exchange). (t.packet, day)) ts (next ∷ [])))
             (subst R (sym (map-append (λ (t : Exchange). t.answer) ts (next ∷ [])))
-            (Served-push (history old.1) (history between.1) (history new.1) (terms old.1)
+            (Served-push (history old) (history between) (history new) (terms old)
             (packets ts) (answers_of ts) (next.packet, day) next.answer before.served
             (subst P before.same_terms (one.served h))));
       }
@@ -281,42 +257,36 @@ module _ {B : Type 0} (faults : B → Faults) (honest : B → Type 0) (terms : B
 
   -- Every reply that a batch sent is owed to one of its datagrams, by the calls that are committed
   -- after it.
-  pub batch_owes : (most : ℕ) (old new : Trace × B) (turns : List Turn)
+  pub batch_owes : (most : ℕ) (old new : Trace × B) (taken : List Exchange) (turns : List Turn)
       (batch : ServesBatch faults honest terms history committed clean may_find day most old new
-      turns)
-      → honest new.1 → All (IsOwedReply (committed new.1) (packets batch.taken)) turns
-  batch_owes most old new turns batch h =
-      let before = by_commit batch.between.1 new.1 batch.taken batch.answers.commit_result
+      taken turns)
+      → honest new.1 → All (IsOwedReply (committed new.1) (packets taken)) turns
+  batch_owes most old new taken turns batch h =
+      let before = by_commit batch.between.1 new.1 taken batch.answers.commit_result
       batch.answers.commits h in
-      let same = ap history batch.takes.same in
-      let served =
-      (serves_taken old batch.takes.handled batch.taken batch.takes.takes
-      (subst honest batch.takes.same before.0)).served in
-      let P : List Entry → Type 0 = λ l. All (IsTakenAnswered l) batch.taken in
-      let owed = subst P (sym (before.1 ∙ same)) (taken_answered (history batch.takes.handled.1) day
-      batch.taken served.answered) in
-      let ds = packets batch.taken in
+      let served = (serves_taken old.1 batch.between.1 taken batch.takes.handles before.0).served in
+      let P : List Entry → Type 0 = λ l. All (IsTakenAnswered l) taken in
+      let owed = subst P (sym before.1) (taken_answered (history batch.between.1) day taken
+      served.answered) in
+      let ds = packets taken in
       let all = all_stand (honest new.1) (committed new.1) (history new.1) ds day h
-      batch.answers.commit_result batch.between.0 new.0 batch.taken batch.answered
-      (all_done batch.between.1 new.1 batch.taken batch.answers.commit_result ds
-      batch.answers.commits h)
-      owed
-      (inside_of batch.taken ds (λ d is. is)) batch.answers.answers in
+      batch.answers.commit_result taken batch.answered
+      (all_done batch.between.1 new.1 taken batch.answers.commit_result ds batch.answers.commits h)
+      owed (inside_of taken ds (λ d is. is)) batch.answers.answers in
       subst (λ (l : List Turn). All (IsOwedReply (committed new.1) ds) l) (sym batch.are)
       (told (committed new.1) ds batch.ended batch.answered all)
 
   -- Every reply that a batch sent is one that the committed calls give.
-  pub batch_stands : (most : ℕ) (old new : Trace × B) (turns : List Turn)
-      → ServesBatch faults honest terms history committed clean may_find day most old new turns →
-      honest new.1
-      → All (IsSentCommitted (committed new.1)) turns
-  batch_stands most old new turns batch h =
-      all_sent (committed new.1) (packets batch.taken) turns
-      (batch_owes most old new turns batch h)
+  pub batch_stands : (most : ℕ) (old new : Trace × B) (taken : List Exchange) (turns : List Turn)
+      → ServesBatch faults honest terms history committed clean may_find day most old new taken turns
+      → honest new.1 → All (IsSentCommitted (committed new.1)) turns
+  batch_stands most old new taken turns batch h =
+      all_sent (committed new.1) (packets taken) turns
+      (batch_owes most old new taken turns batch h)
 
   -- The same for a batch of one turn.
-  pub turn_of_batch : (old new : Trace × B) (turn : Turn) → ServesBatch faults honest terms history
-      committed clean may_find day 1 old new (turn ∷ []) → honest new.1 → IsSentCommitted (committed
-      new.1) turn
+  pub turn_of_batch : (old new : Trace × B) (turn : Turn) → ((taken : List Exchange)
+      × ServesBatch faults honest terms history committed clean may_find day 1 old new taken
+      (turn ∷ [])) → honest new.1 → IsSentCommitted (committed new.1) turn
   turn_of_batch old new turn batch h = All-head (IsSentCommitted (committed new.1)) turn []
-      (batch_stands 1 old new (turn ∷ []) batch h)
+      (batch_stands 1 old new batch.0 (turn ∷ []) batch.1 h)

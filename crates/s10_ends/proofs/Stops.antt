@@ -24,9 +24,9 @@ use Rattle.s10_ends.specs.Served.{Dated, IsOnce, Served, not_faulted}
 use Rattle.s10_ends.specs.Served.AreAsked.{none as asked_none, request as asked}
 use Rattle.s10_ends.specs.Stop.{AreSome, IsFoundAmong, StopsAfter}
 use Rattle.s10_ends.specs.Stop.AreSome.{none, without, with}
-use Rattle.s10_ends.specs.Turn.{Turn, Handles}
-use Rattle.s10_ends.specs.Batch.{ReceivesAll, ServesBatch, CommitsIfPending}
-use Rattle.s10_ends.specs.Batch.ReceivesAll.{none as taken_none, more as taken_more}
+use Rattle.s10_ends.specs.Turn.{Handles}
+use Rattle.s10_ends.specs.Batch.{HandlesAll, CommitsIfPending}
+use Rattle.s10_ends.specs.Batch.HandlesAll.{none as handled_none, more as handled_more}
 use Rattle.s10_ends.specs.Composed.{BatchesLead, turns_in, IsBatch, DatedBatch, deliveries_in, answers_in}
 use Rattle.s10_ends.specs.Composed.{SurvivesStop}
 use Rattle.s10_ends.proofs.Whole.{IsOnce-append, grows, of_history}
@@ -258,25 +258,25 @@ module _ {B : Type 0} (faults : B → Faults) (honest : B → Type 0) (terms : B
   of_list : (a b : B) (ds es : List Dated) → es ≡ ds → StopsIn a b ds → StopsIn a b es
   of_list a b ds es same stops = subst (λ (l : List Dated). StopsIn a b l) (sym same) stops
 
-  stops_taken : (day : ℕ) (old new : Trace × B) (ts : List Exchange)
-      → ReceivesAll (Handled day) old ts new → StopsIn old.1 new.1 (sent day ts)
-  stops_taken day old _ _ taken_none = stops_none terms history committed honest clean may_find
-      old.1 []
-  stops_taken day old new _ (taken_more {between = between} {taken = ts} {next = next} takes
+  stops_taken : (day : ℕ) (old new : B) (ts : List Exchange)
+      → HandlesAll (Handled day) old ts new → StopsIn old new (sent day ts)
+  stops_taken day old _ _ handled_none = stops_none terms history committed honest clean may_find
+      old []
+  stops_taken day old new _ (handled_more {between = between} {taken = ts} next takes
       last) =
-      let upto : honest between.1 → Upto faults honest terms history committed clean may_find
-      (history old.1) (terms old.1) (committed old.1) (sent day ts) (told ts) between.1 =
-      λ h. upto_taken faults honest terms history committed clean may_find (history old.1)
-      (terms old.1) (committed old.1) day [] [] old between ts takes h
-      (here faults honest terms history committed clean may_find old.1) in
-      of_list old.1 new.1 (sent day ts ++ (next.packet, day) ∷ []) (sent day (ts ++ next ∷ []))
+      let upto : honest between → Upto faults honest terms history committed clean may_find
+      (history old) (terms old) (committed old) (sent day ts) (told ts) between =
+      λ h. upto_taken faults honest terms history committed clean may_find (history old)
+      (terms old) (committed old) day [] [] old between ts takes h
+      (here faults honest terms history committed clean may_find old) in
+      of_list old new (sent day ts ++ (next.packet, day) ∷ []) (sent day (ts ++ next ∷ []))
       (map-append (λ (t : Exchange). (t.packet, day)) ts (next ∷ []))
-      (stops_trans terms history committed honest clean may_find old.1 between.1 new.1 (sent day ts)
+      (stops_trans terms history committed honest clean may_find old between new (sent day ts)
       ((next.packet, day) ∷ []) (told ts) (stops_taken day old between ts takes)
       (honest_taken faults honest terms history committed clean may_find day old between ts
       takes)
       (λ h. (upto h).same_terms) (λ h. (upto h).served) (λ h. (upto h).stays_committed)
-      last.1.stop)
+      last.stop)
 
   stops_answered : (between new : B) (ts : List Exchange) (commit_result : Result (Unit {0}) BookFault)
       → CommitsIfPending faults honest terms history committed clean may_find between new ts
@@ -286,51 +286,45 @@ module _ {B : Type 0} (faults : B → Faults) (honest : B → Type 0) (terms : B
   stops_answered between new ts commit_result (inl it) =
       stops_committed terms history committed honest clean may_find between new it.1.commits_some
 
-  pub stops_batch : (day most : ℕ) (old new : Trace × B) (batch : List Turn)
-      (it : ServesBatch faults honest terms history committed clean may_find day most old new batch)
-      → StopsIn old.1 new.1 (sent day it.taken)
-  stops_batch day most old new batch it =
-      let middle = it.takes.handled in
-      let after : StopsIn middle.1 new.1 [] = subst (λ (x : B). StopsIn x new.1 []) it.takes.same
-      (stops_answered it.between.1 new.1 it.taken it.answers.commit_result
-      it.answers.commits) in
-      let upto : honest middle.1 → Upto faults honest terms history committed clean may_find
-      (history old.1) (terms old.1) (committed old.1) (sent day it.taken) (told it.taken)
-      middle.1 =
+  pub stops_batch : (old new : Trace × B) (batch : DatedBatch)
+      → IsBatch faults honest terms history committed clean may_find old batch new
+      → StopsIn old.1 new.1 (sent batch.day batch.taken)
+  stops_batch old new batch (most, it) =
+      let taken = batch.taken in
+      let middle = it.between.1 in
+      let upto : honest middle → Upto faults honest terms history committed clean may_find
+      (history old.1) (terms old.1) (committed old.1) (sent batch.day taken) (told taken) middle =
       λ h. upto_taken faults honest terms history committed clean may_find (history old.1)
-      (terms old.1) (committed old.1) day [] [] old middle it.taken it.takes.takes h
+      (terms old.1) (committed old.1) batch.day [] [] old.1 middle taken it.takes.handles h
       (here faults honest terms history committed clean may_find old.1) in
-      of_list old.1 new.1 (sent day it.taken ++ []) (sent day it.taken)
-      (sym (append-nil (sent day it.taken)))
-      (stops_trans terms history committed honest clean may_find old.1 middle.1 new.1
-      (sent day it.taken) [] (told it.taken) (stops_taken day old middle it.taken it.takes.takes)
-      (honest_taken faults honest terms history committed clean may_find day old middle
-      it.taken it.takes.takes)
-      (λ h. (upto h).same_terms) (λ h. (upto h).served) (λ h. (upto h).stays_committed) after)
+      of_list old.1 new.1 (sent batch.day taken ++ []) (sent batch.day taken)
+      (sym (append-nil (sent batch.day taken)))
+      (stops_trans terms history committed honest clean may_find old.1 middle new.1
+      (sent batch.day taken) [] (told taken) (stops_taken batch.day old.1 middle taken
+      it.takes.handles)
+      (honest_taken faults honest terms history committed clean may_find batch.day old.1 middle
+      taken it.takes.handles)
+      (λ h. (upto h).same_terms) (λ h. (upto h).served) (λ h. (upto h).stays_committed)
+      (stops_answered middle new.1 taken it.answers.commit_result it.answers.commits))
 
   pub stops_batches : (old new : Trace × B) (batches : List DatedBatch)
-      (lead : BatchesLead (IsBatch faults honest terms history committed clean may_find) old
-      batches new)
-      → StopsIn old.1 new.1 (deliveries_in faults honest terms history committed clean may_find old
-      new batches lead)
-  unfolding BatchesLead deliveries_in
+      → BatchesLead (IsBatch faults honest terms history committed clean may_find) old batches new
+      → StopsIn old.1 new.1 (deliveries_in batches)
+  unfolding BatchesLead
   stops_batches old new [] same = stops_same terms history committed honest clean may_find
       old.1
       new.1 [] (ap (λ (s : Trace × B). s.1) same)
-  stops_batches old new (batch ∷ batches) (next, (most, it), rest) =
+  stops_batches old new (batch ∷ batches) (next, one, rest) =
       let upto : honest next.1 → Upto faults honest terms history committed clean may_find
-      (history old.1) (terms old.1) (committed old.1) (sent batch.day it.taken) (told it.taken)
-      next.1 =
+      (history old.1) (terms old.1) (committed old.1) (sent batch.day batch.taken)
+      (told batch.taken) next.1 =
       λ h. upto_batch faults honest terms history committed clean may_find (history old.1)
-      (terms old.1) (committed old.1) [] [] batch.day most old next batch.turns it h
+      (terms old.1) (committed old.1) [] [] old next batch one h
       (here faults honest terms history committed clean may_find old.1) in
       stops_trans terms history committed honest clean may_find old.1 next.1 new.1
-      (sent batch.day it.taken)
-      (deliveries_in faults honest terms history committed clean may_find next new batches
-      rest)
-      (told it.taken) (stops_batch batch.day most old next batch.turns it)
-      (honest_batch faults honest terms history committed clean may_find old next batch
-      (most, it))
+      (sent batch.day batch.taken) (deliveries_in batches) (told batch.taken)
+      (stops_batch old next batch one)
+      (honest_batch faults honest terms history committed clean may_find old next batch one)
       (λ h. (upto h).same_terms) (λ h. (upto h).served) (λ h. (upto h).stays_committed)
       (stops_batches next new batches rest)
 
@@ -343,9 +337,9 @@ module _ {B : Type 0} (faults : B → Faults) (honest : B → Type 0) (terms : B
   survived legal first_law found_law old new first rest between before after h c found may =
       let all = all_composed faults honest terms history committed clean may_find legal old
       between first before h in
-      let ds = deliveries_in faults honest terms history committed clean may_find old between first before in
-      let ans = answers_in faults honest terms history committed clean may_find old between first before in
-      let es = deliveries_in faults honest terms history committed clean may_find between new rest after in
+      let ds = deliveries_in first in
+      let ans = answers_in first in
+      let es = deliveries_in rest in
       let among : IsFoundAmong (committed between.1) (history old.1) (terms old.1).interval
       (ds ++ es) found =
       ⊎_elim

@@ -1,12 +1,12 @@
 -- Lemmas about the results of a receive.
-use Rattle.std.proofs.Common.{◌≡◌, List, ℕ, Option, Some, None, Result, Ok, Err, refl, sym, ap}
+use Rattle.std.proofs.Common.{◌≡◌, List, [], ◌∷◌, ◌++◌, ℕ, Option, Some, None, Result, Ok, Err, refl, sym, ap}
 use Rattle.std.proofs.Common.{subst}
 use Rattle.std.specs.Prelude.{IsErrAnd}
 use Rattle.s10_link.specs.declared.trace.Trace.{Trace}
 use Rattle.s10_link.specs.declared.peer.Peer.{Peer}
 use Rattle.s10_link.specs.declared.packet.Packet.{Packet}
 use Rattle.s10_link.specs.declared.link_fault.LinkFault.{LinkFault}
-use Rattle.s10_link.specs.Trace.{after_call, after_datagram}
+use Rattle.s10_link.specs.declared.link_call.LinkCall.TheVariants as calls
 use Rattle.s10_link.specs.Link.{Receives}
 use Rattle.s10_ends.specs.declared.answer.Answer.{Answer}
 use Rattle.s10_ends.specs.declared.exchange.Exchange.{Exchange}
@@ -20,20 +20,20 @@ same_error (Err e) fault passed = ap (λ (f : LinkFault). Err f) passed
 
 -- A receive got a datagram.
 pub taken_is : (old new : Trace) (o : Option (Peer × Packet)) (p : Peer × Packet)
-    → Receives old new (Ok o) → o ≡ Some p → new ≡ after_datagram old p
+    → Receives old new (Ok o) → o ≡ Some p → new ≡ old ++ calls.Received p.0 p.1 ∷ []
 taken_is old new o p received is = let P : Option (Peer × Packet) → Type 0 =
     λ x. Receives old new (Ok x) in subst P is received
 
 pub taken_with : (old new : Trace) (o : Option (Peer × Packet)) (from : Peer) (packet own : Packet)
     → Receives old new (Ok o) → o ≡ Some (from, packet) → packet ≡ own
-    → new ≡ after_datagram old (from, own)
+    → new ≡ old ++ calls.Received from own ∷ []
 taken_with old new o from packet own received is same = let P : Packet → Type 0 =
-    λ x. new ≡ after_datagram old (from, x) in
+    λ x. new ≡ old ++ calls.Received from x ∷ [] in
     subst P same (taken_is old new o (from, packet) received is)
 
 -- A receive got nothing.
 pub quiet_is : (old new : Trace) (o : Option (Peer × Packet)) → Receives old new (Ok o) → o ≡ None
-    → new ≡ after_call old
+    → new ≡ old ++ calls.Quiet ∷ []
 quiet_is old new o received is = let P : Option (Peer × Packet) → Type 0 =
     λ x. Receives old new (Ok x) in subst P is received
 

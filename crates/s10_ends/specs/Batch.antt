@@ -1,11 +1,10 @@
 -- A batch: datagrams that a server receives together, commits in one transaction, then replies to.
-use Rattle.std.specs.Prelude.{◌≡◌, ◌⊎◌, ℕ, ⊤, Bool, true, false, ◌+◌, ◌<◌, ◌≤◌, List, [], ◌∷◌}
-use Rattle.std.specs.Prelude.{◌++◌, length, count_by, Contains, Some, Result, Ok, Err, Option, All}
-use Rattle.std.specs.List.{list_any}
+use Rattle.std.specs.Prelude.{◌≡◌, ◌⊎◌, ℕ, ⊤, Bool, true, false, ◌<◌, List, [], ◌∷◌}
+use Rattle.std.specs.Prelude.{◌++◌, length, map, Contains, Result, Ok, Err, Option, All}
+use Rattle.std.specs.List.{list_any, flat_map, AllZip, zip}
 use Rattle.s10_link.specs.declared.trace.Trace.{Trace}
 use Rattle.s10_link.specs.declared.link_fault.LinkFault.{LinkFault}
-use Rattle.s10_link.specs.declared.link_fault.LinkFault.TheVariants.{Send}
-use Rattle.s10_link.specs.Trace.{after_call}
+use Rattle.s10_link.specs.declared.link_call.LinkCall.TheVariants as calls
 use Rattle.s10_link.specs.Link.{Receives}
 use Rattle.s10_history.specs.declared.entry.Entry.{Entry}
 use Rattle.s10_history.specs.Settings.{Terms}
@@ -17,30 +16,29 @@ use Rattle.s10_ends.specs.declared.answer.Answer.TheVariants.{Reply, Faulted}
 use Rattle.s10_ends.specs.declared.exchange.Exchange.{Exchange}
 use Rattle.s10_ends.specs.declared.server_turn.ServerTurn.TheVariants as turns
 use Rattle.s10_ends.specs.Served.{Dated, IsOwed, IsReplyIn}
-use Rattle.s10_ends.specs.Turn.{Turn, Handles, Commits, Takes, AsksCommitted, Answers}
+use Rattle.s10_ends.specs.Turn.{Turn, Handles, Commits, AsksCommitted, Answers, receipt_of, sends_for}
 
--- Exchanges were received and handled in order, from the first trace and book to the last ones.
-pub data ReceivesAll {B : Type 0} (Handled : B → B → List ℕ → Answer → Type 0) : Trace × B
-    → List Exchange → Trace × B → Type 0 where
-  none : {at : Trace × B} → ReceivesAll Handled at [] at
-  more : {old between new : Trace × B} {taken : List Exchange} {next : Exchange}
-      → ReceivesAll Handled old taken between → Takes Handled between new (Ok (Some next))
-      → ReceivesAll Handled old (taken ++ next ∷ []) new
+-- The datagrams of exchanges were handled in order, from the first book to the last one.
+pub data HandlesAll {B : Type 0} (Handled : B → B → List ℕ → Answer → Type 0) : B → List Exchange
+    → B → Type 0 where
+  none : {at : B} → HandlesAll Handled at [] at
+  more : {old between new : B} {taken : List Exchange} (next : Exchange)
+      → HandlesAll Handled old taken between → Handled between new next.packet next.answer
+      → HandlesAll Handled old (taken ++ next ∷ []) new
 
 -- Why receiving ended: `most` were received, nothing more had arrived, or a receive failed.
 abbrev pub EndsReceiving : ℕ → List Exchange → Trace → Trace → Result (Unit {0}) LinkFault → Type 0
 EndsReceiving most taken old new (Ok _) = ((length taken ≡ most) × (new ≡ old))
-    ⊎ ((length taken < most) × (new ≡ after_call old))
+    ⊎ ((length taken < most) × (new ≡ old ++ calls.Quiet ∷ []))
 EndsReceiving most taken old new (Err fault) = (length taken < most) × Receives old new (Err fault)
 
--- At most `most` datagrams were received and handled, and receiving ended for such a reason.
+-- Exactly the datagrams of these exchanges were received, in order, and handled, at most `most`.
+-- Then receiving ended for such a reason.
 pub record ReceivesBatch {B : Type 0} (Handled : B → B → List ℕ → Answer → Type 0) (most : ℕ)
     (old new : Trace × B) (taken : List Exchange) (ended : Result (Unit {0}) LinkFault) :
     Type 0 where
-  pub handled : Trace × B
-  pub takes : ReceivesAll Handled old taken handled
-  pub ends : EndsReceiving most taken handled.0 new.0 ended
-  pub same : new.1 ≡ handled.1
+  pub handles : HandlesAll Handled old.1 taken new.1
+  pub ends : EndsReceiving most taken (old.0 ++ map receipt_of taken) new.0 ended
 
 -- Whether the answer is a reply.
 abbrev pub is_reply : Answer → Bool
@@ -81,17 +79,9 @@ pub record NeedNoCommit (committed h : List Entry) (taken : List Exchange) : Typ
   pub replies : AllCommitted committed h taken
   pub faults : has_store_fault taken ≡ true → committed ≡ h
 
--- Each exchange was replied to in order, and has one turn.
-pub data AnswersAll (Honest : Type 0) (IsCommitted : List ℕ → Type 0)
-    (commit_result : Result (Unit {0}) BookFault) : Trace → List Exchange → List Turn → Trace
-    → Type 0 where
-  none : {at : Trace} → AnswersAll Honest IsCommitted commit_result at [] [] at
-  more : {old between new : Trace} {taken : List Exchange} {answered : List Turn} (next : Exchange)
-      (turn : Turn)
-      → AnswersAll Honest IsCommitted commit_result old taken answered between
-      → Answers Honest IsCommitted between new commit_result next.from next.packet next.answer turn
-      → AnswersAll Honest IsCommitted commit_result old (taken ++ next ∷ []) (answered ++ turn ∷ [])
-      new
+-- What the link sent for exchanges with these turns, in order.
+abbrev pub sends_of : List Exchange → List Turn → Trace
+sends_of taken answered = flat_map (λ p. sends_for p.0.answer p.0.from p.1) (zip taken answered)
 
 -- The turns of a batch: those of its exchanges, then a failed receive. Quiet if there is no other.
 abbrev pub turns_of_batch : Result (Unit {0}) LinkFault → List Turn → List Turn
@@ -110,16 +100,6 @@ IsOwedReply committed deliveries (Ok (turns.Replied to frame)) =
     (d : Dated) × Contains deliveries d × IsOwed committed d.0 frame
 IsOwedReply committed deliveries turn = ⊤
 
--- Whether the turn is a failed send.
-abbrev pub is_failed_send : Turn → Bool
-is_failed_send (Err Send) = true
-is_failed_send turn = false
-
--- Of the calls of the link, at most `most` are not sends.
-abbrev pub ReceivesAtMost : ℕ → Trace → Trace → List Turn → Type 0
-ReceivesAtMost most old new turns = new.calls + old.sends
-    ≤ old.calls + most + new.sends + count_by is_failed_send turns
-
 module _ {B : Type 0} (faults : B → Faults) (honest : B → Type 0) (terms : B → Terms)
     (history committed : B → List Entry) (clean : B → Type 0)
     (may_find : B → Option (List Entry) → Type 0) where
@@ -132,18 +112,21 @@ module _ {B : Type 0} (faults : B → Faults) (honest : B → Type 0) (terms : B
       ⊎ ((new ≡ old) × (commit_result ≡ Ok tt)
       × (honest old → NeedNoCommit (committed old) (history old) taken))
 
-  -- A commit was tried if the exchanges needed it. Then the replies were sent or withheld.
+  -- A commit was tried if the exchanges needed it. Then exactly their replies were sent, in order,
+  -- each to its sender, or withheld.
   pub record CommitsAndReplies (old new : Trace × B) (taken : List Exchange)
       (answered : List Turn) : Type 0 where
     pub commit_result : Result (Unit {0}) BookFault
     pub commits : CommitsIfPending old.1 new.1 taken commit_result
-    pub answers : AnswersAll (honest new.1) (AsksCommitted (committed new.1) (history new.1))
-        commit_result old.0 taken answered new.0
+    pub answers : AllZip (λ t turn. Answers (honest new.1)
+        (AsksCommitted (committed new.1) (history new.1)) commit_result t.from t.packet t.answer turn)
+        taken answered
+    pub sends : new.0 ≡ old.0 ++ sends_of taken answered
 
-  -- At most `most` datagrams were received and handled on the day, their calls committed, and then
-  -- they were replied to.
-  pub record ServesBatch (day most : ℕ) (old new : Trace × B) (turns : List Turn) : Type 0 where
-    pub taken : List Exchange
+  -- The datagrams of these exchanges, at most `most`, were received and handled on the day, their
+  -- calls committed, and then they were replied to.
+  pub record ServesBatch (day most : ℕ) (old new : Trace × B) (taken : List Exchange)
+      (turns : List Turn) : Type 0 where
     pub between : Trace × B
     pub ended : Result (Unit {0}) LinkFault
     pub takes : ReceivesBatch (λ before after b answer. Handles faults honest terms history

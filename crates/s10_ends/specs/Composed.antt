@@ -1,22 +1,28 @@
 -- What batches of a server, one after another, do to its book.
-use Rattle.std.specs.Prelude.{◌≡◌, ℕ, List, [], ◌∷◌, ◌++◌, map, Option, Some, All}
+use Rattle.std.specs.Prelude.{◌≡◌, ℕ, List, [], ◌∷◌, ◌++◌, map, Option, Some, Ok, All}
 use Rattle.std.specs.List.{flat_map}
 use Rattle.s10_link.specs.declared.trace.Trace.{Trace}
+use Rattle.s10_link.specs.declared.peer.Peer.{Peer}
+use Rattle.s10_link.specs.declared.packet.Packet.{Packet}
+use Rattle.s10_link.specs.Carried.{received_in, sent_in, sends_in}
+use Rattle.s10_wire.specs.declared.frame.Frame.{Frame}
 use Rattle.s10_history.specs.declared.entry.Entry.{Entry}
 use Rattle.s10_history.specs.Settings.{Terms}
 use Rattle.s10_book.specs.declared.faults.Faults.{Faults}
 use Rattle.s10_book.specs.Book.{Grows}
 use Rattle.s10_ends.specs.declared.answer.Answer.{Answer}
 use Rattle.s10_ends.specs.declared.exchange.Exchange.{Exchange}
+use Rattle.s10_ends.specs.declared.server_turn.ServerTurn.TheVariants as turns
 use Rattle.s10_ends.specs.Served.{Dated, Served}
 use Rattle.s10_ends.specs.Runs.{KeepsPromises, IsIssued}
 use Rattle.s10_ends.specs.Stop.{IsFoundAmong}
 use Rattle.s10_ends.specs.Turn.{Turn}
-use Rattle.s10_ends.specs.Batch.{ServesBatch, IsSentCommitted, IsOwedReply}
+use Rattle.s10_ends.specs.Batch.{ServesBatch, IsSentCommitted, IsOwedReply, sends_of}
 
--- The turns of a batch, and the day on which they were served.
+-- The exchanges of a batch, its turns, and the day on which they were served.
 pub record DatedBatch : Type 0 where
   pub day : ℕ
+  pub taken : List Exchange
   pub turns : List Turn
 
 -- The batches lead from the old state to the new, one after another.
@@ -34,29 +40,49 @@ turns_in batches = flat_map (λ batch. batch.turns) batches
 abbrev pub days_of : List DatedBatch → List ℕ
 days_of batches = map (λ batch. batch.day) batches
 
+-- The datagrams that the batches received, in order, each with its sender.
+abbrev pub datagrams_in : List DatedBatch → List (Peer × Packet)
+datagrams_in batches = flat_map (λ batch. map (λ t. (t.from, t.packet)) batch.taken) batches
+
+-- The datagrams that the batches received, in order, each with the day of its batch.
+abbrev pub deliveries_in : List DatedBatch → List Dated
+deliveries_in batches = flat_map (λ batch. map (λ t. (t.packet, batch.day)) batch.taken) batches
+
+-- The answers to these datagrams, in order.
+abbrev pub answers_in : List DatedBatch → List Answer
+answers_in batches = flat_map (λ batch. map (λ t. t.answer) batch.taken) batches
+
+-- The frame that a turn sent, with the peer that it was sent to.
+abbrev pub sent_by : Turn → List (Peer × Frame)
+sent_by (Ok (turns.Replied to frame)) = (to, frame) ∷ []
+sent_by turn = []
+
+-- The frames that turns sent, in order, each with the peer that it was sent to.
+abbrev pub frames_in : List Turn → List (Peer × Frame)
+frames_in turns = flat_map sent_by turns
+
+-- The sends of batches, in order: to the sender of each datagram that was replied to, the reply to it.
+-- A send that failed is among them as such.
+abbrev pub replies_in : List DatedBatch → Trace
+replies_in batches = flat_map (λ batch. sends_of batch.taken batch.turns) batches
+
+-- Between the two traces the link received exactly these datagrams, tried exactly these sends, and sent
+-- exactly these frames, each in order.
+pub record Carries (old new : Trace) (datagrams : List (Peer × Packet)) (sends : Trace)
+    (frames : List (Peer × Frame)) : Type 0 where
+  pub made : Trace
+  pub are : new ≡ old ++ made
+  pub received : received_in made ≡ datagrams
+  pub tried : sends_in made ≡ sends
+  pub sent : sent_in made ≡ frames
+
 module _ {B : Type 0} (faults : B → Faults) (honest : B → Type 0) (terms : B → Terms)
     (history committed : B → List Entry) (clean : B → Type 0)
     (may_find : B → Option (List Entry) → Type 0) where
   -- One batch, from a link's trace and a server's book to those after it.
   abbrev pub IsBatch : Trace × B → DatedBatch → Trace × B → Type 0
   IsBatch old batch new = (most : ℕ) × ServesBatch faults honest terms history committed clean
-      may_find batch.day most old new batch.turns
-
-  -- The datagrams that the batches received, in order, each with the day of its batch.
-  unfoldable pub deliveries_in : (old new : Trace × B) (batches : List DatedBatch)
-      → BatchesLead IsBatch old batches new → List Dated
-  unfolding BatchesLead
-  deliveries_in old new [] lead = []
-  deliveries_in old new (batch ∷ batches) (next, (most, it), rest) =
-      map (λ (t : Exchange). (t.packet, batch.day)) it.taken ++ deliveries_in next new batches rest
-
-  -- The answers to these datagrams, in order.
-  unfoldable pub answers_in : (old new : Trace × B) (batches : List DatedBatch)
-      → BatchesLead IsBatch old batches new → List Answer
-  unfolding BatchesLead
-  answers_in old new [] lead = []
-  answers_in old new (batch ∷ batches) (next, (most, it), rest) =
-      map (λ (t : Exchange). t.answer) it.taken ++ answers_in next new batches rest
+      may_find batch.day most old new batch.taken batch.turns
 
   -- Batches with these deliveries, answers and turns led from one book to the other. The history is
   -- what each distinct request once, in order of first arrival, gives, and keeps its promises.
@@ -79,10 +105,9 @@ module _ {B : Type 0} (faults : B → Faults) (honest : B → Type 0) (terms : B
   -- the first history.
   abbrev pub SurvivesStop : Trace × B → Trace × B → Type 0
   SurvivesStop old new = (first rest : List DatedBatch) (between : Trace × B)
-      (before : BatchesLead IsBatch old first between)
-      (after : BatchesLead IsBatch between rest new)
+      → BatchesLead IsBatch old first between → BatchesLead IsBatch between rest new
       → honest between.1 → clean new.1 → (found : Option (List Entry)) → may_find new.1 found
       → IsFoundAmong (committed between.1) (history old.1) (terms old.1).interval
-      (deliveries_in old between first before ++ deliveries_in between new rest after)
+      (deliveries_in first ++ deliveries_in rest)
       found × ((calls : List Entry) → found ≡ Some calls
       → All (IsSentCommitted calls) (turns_in first))

@@ -1,5 +1,5 @@
 -- What one turn of a server does to its book and to the link.
-use Rattle.std.specs.Prelude.{◌≡◌, ◌↔◌, ◌⊎◌, ℕ, ⊤, List, [], ◌∷◌, Option, Some, None, Result, Ok}
+use Rattle.std.specs.Prelude.{◌≡◌, ◌↔◌, ◌⊎◌, ℕ, ⊤, List, [], ◌∷◌, ◌++◌, Option, Some, None, Result, Ok}
 use Rattle.std.specs.Prelude.{Err, OnOk}
 use Rattle.s10_link.specs.declared.trace.Trace.{Trace}
 use Rattle.s10_link.specs.declared.peer.Peer.{Peer}
@@ -7,9 +7,11 @@ use Rattle.s10_wire.specs.declared.frame.Frame.{Frame}
 use Rattle.s10_wire.specs.declared.request.Request.{Request}
 use Rattle.s10_wire.specs.Datagrams.{Asks}
 use Rattle.s10_wire.specs.declared.wire_fault.WireFault.{WireFault}
+use Rattle.s10_link.specs.declared.link_call.LinkCall.{LinkCall}
+use Rattle.s10_link.specs.declared.link_call.LinkCall.TheVariants as calls
 use Rattle.s10_link.specs.declared.link_fault.LinkFault.{LinkFault}
-use Rattle.s10_link.specs.Trace.{after_call, after_datagram}
-use Rattle.s10_link.specs.Link.{SendResult, Receives, Sends}
+use Rattle.s10_link.specs.declared.link_fault.LinkFault.TheVariants.{Send, Spent}
+use Rattle.s10_link.specs.Link.{Receives}
 use Rattle.s10_wire.specs.WireFault.{IsFirstRefusalOfRequest}
 use Rattle.s10_history.specs.declared.entry.Entry.{Entry}
 use Rattle.s10_book.specs.declared.book_fault.BookFault.{BookFault}
@@ -58,28 +60,29 @@ pub record Commits {B : Type 0} (faults : B → Faults) (honest : B → Type 0) 
   pub commits_some : CommitsSome history committed terms honest clean may_find old new
   pub done : honest new → OnOk result (committed new ≡ history new)
 
+-- The call of the link that received the datagram of the exchange from its sender.
+abbrev pub receipt_of : Exchange → LinkCall
+receipt_of taken = calls.Received taken.from taken.packet
+
 -- One receive, and the answer to the datagram that arrived: from a link's trace and a server's book
 -- to those after it.
 abbrev pub Takes : {B : Type 0} → (B → B → List ℕ → Answer → Type 0) → Trace × B → Trace × B
     → Result (Option Exchange) LinkFault → Type 0
-Takes Handled old new (Ok None) = (new.0 ≡ after_call old.0) × (new.1 ≡ old.1)
-Takes Handled old new (Ok (Some taken)) = (new.0 ≡ after_datagram old.0 (taken.from, taken.packet))
+Takes Handled old new (Ok None) = (new.0 ≡ old.0 ++ calls.Quiet ∷ []) × (new.1 ≡ old.1)
+Takes Handled old new (Ok (Some taken)) = (new.0 ≡ old.0 ++ receipt_of taken ∷ [])
     × Handled old.1 new.1 taken.packet taken.answer
 Takes Handled old new (Err fault) = Receives old.0 new.0 (Err fault) × (new.1 ≡ old.1)
 
--- The turn of a reply, by the result of sending it.
-abbrev pub sent_turn : Peer → Frame → SendResult → Turn
-sent_turn to frame (Ok _) = Ok (turns.Replied to frame)
-sent_turn to frame (Err fault) = Err fault
+-- What the link sent for an answer, by its turn: exactly that reply to exactly this peer, or nothing.
+abbrev pub sends_for : Answer → Peer → Turn → Trace
+sends_for (Reply frame) to (Ok (turns.Replied peer sent)) = calls.Sent to frame ∷ []
+sends_for (Reply frame) to (Err Send) = calls.FailedSend to frame ∷ []
+sends_for answer to turn = []
 
--- The reply is sent to the peer.
-abbrev pub SendsReply : Trace → Trace → Peer → Frame → Turn → Type 0
-SendsReply old new to frame turn = (sent : SendResult) × Sends old new (to, frame) sent
-    × (turn ≡ sent_turn to frame sent)
-
--- The reply is withheld from the peer.
-abbrev pub WithholdsReply : Trace → Trace → Peer → BookFault → Turn → Type 0
-WithholdsReply old new to fault turn = (new ≡ old) × (turn ≡ Ok (turns.Uncommitted to fault))
+-- The turn of a reply that was sent to the peer, or whose send failed.
+abbrev pub IsSentTurn : Peer → Frame → Turn → Type 0
+IsSentTurn to frame (Ok turn) = turn ≡ turns.Replied to frame
+IsSentTurn to frame (Err fault) = (fault ≡ Send) ⊎ (fault ≡ Spent)
 
 -- The bytes are a request, and the committed calls have the same under its key as the history.
 abbrev pub AsksCommitted : List Entry → List Entry → List ℕ → Type 0
@@ -89,22 +92,16 @@ AsksCommitted committed h b = (q : Request) × Asks b q × IsCommittedCall commi
 module _ (Honest : Type 0) (IsCommitted : List ℕ → Type 0) where
   -- A reply is sent if the commit succeeded. Otherwise it is sent if its own call is committed, and
   -- withheld if not.
-  abbrev pub SendsCommitted : Trace → Trace → Result (Unit {0}) BookFault → Peer → List ℕ → Frame
-      → Turn → Type 0
-  SendsCommitted old new (Ok _) to b frame turn = SendsReply old new to frame turn
-  SendsCommitted old new (Err fault) to b frame turn =
-      ((Honest → IsCommitted b) × SendsReply old new to frame turn)
-      ⊎ ((Honest → ¬ (IsCommitted b)) × WithholdsReply old new to fault turn)
+  abbrev pub SendsCommitted : Result (Unit {0}) BookFault → Peer → List ℕ → Frame → Turn → Type 0
+  SendsCommitted (Ok _) to b frame turn = IsSentTurn to frame turn
+  SendsCommitted (Err fault) to b frame turn = ((Honest → IsCommitted b) × IsSentTurn to frame turn)
+      ⊎ ((Honest → ¬ (IsCommitted b)) × (turn ≡ Ok (turns.Uncommitted to fault)))
 
-  -- What the peer gets, by the answer to its bytes and the result of the commit.
-  abbrev pub Answers : Trace → Trace → Result (Unit {0}) BookFault → Peer → List ℕ → Answer → Turn
-      → Type 0
-  Answers old new commit_result to b (Reply frame) turn = SendsCommitted old new commit_result to b
-      frame turn
-  Answers old new commit_result to b (Dropped fault) turn = (new ≡ old)
-      × (turn ≡ Ok (turns.Dropped to fault))
-  Answers old new commit_result to b (Faulted fault) turn = (new ≡ old)
-      × (turn ≡ Ok (turns.Faulted to fault))
+  -- The turn of a peer, by the answer to its bytes and the result of the commit.
+  abbrev pub Answers : Result (Unit {0}) BookFault → Peer → List ℕ → Answer → Turn → Type 0
+  Answers commit_result to b (Reply frame) turn = SendsCommitted commit_result to b frame turn
+  Answers commit_result to b (Dropped fault) turn = turn ≡ Ok (turns.Dropped to fault)
+  Answers commit_result to b (Faulted fault) turn = turn ≡ Ok (turns.Faulted to fault)
 
 -- All calls of a book are committed after a call if they were before it.
 abbrev pub StaysWhole : {B : Type 0} → (B → Type 0) → (B → List Entry) → (B → List Entry) → B → B
@@ -119,7 +116,8 @@ abbrev pub AnswersTaken : {B : Type 0} → Trace × B → Trace × B → Result 
     → Type 0
 AnswersTaken between new (Ok None) turn = (new ≡ between) × (turn ≡ Ok turns.Quiet)
 AnswersTaken between new (Ok (Some taken)) turn = (new.1 ≡ between.1)
-    × Answers ⊤ (λ _. ⊤) between.0 new.0 (Ok tt) taken.from taken.packet taken.answer turn
+    × (new.0 ≡ between.0 ++ sends_for taken.answer taken.from turn)
+    × Answers ⊤ (λ _. ⊤) (Ok tt) taken.from taken.packet taken.answer turn
 AnswersTaken between new (Err fault) turn = (new ≡ between) × (turn ≡ Err fault)
 
 -- One receive, the handling of the datagram on the day, and at most one send, without a commit.

@@ -5,8 +5,8 @@ ghost use Rattle.std.specs.Prelude.{vec_capacity, Ok};
 ghost use Rattle.s10_link.specs.Link.{LeadsTo};
 ghost use Rattle.s10_ends.specs.Server.{book_of};
 ghost use Rattle.s10_ends.specs.Batch.{ServesBatch, CommitsAndReplies, IsSentCommitted};
-ghost use Rattle.s10_ends.specs.Batch.{ReceivesAtMost, turns_of_batch};
-ghost use Rattle.s10_ends.specs.BatchRoom.{HasRoomFor, turns_in};
+ghost use Rattle.s10_ends.specs.Batch.{turns_of_batch};
+ghost use Rattle.s10_ends.specs.BatchRoom.{HasRoomFor, exchanges_in, turns_in};
 
 use crate::batch_room::BatchRoom;
 use crate::committing::commit_if_pending;
@@ -44,11 +44,9 @@ pub fn serve_batch<B: GroupCommit, L: Link>(
     ensures served { OnOk result (ServesBatch B.faults B.honest B.terms B.history B.committed
         B.clean B.may_find day most
         (L.trace_of link.old, book_of server.old) (L.trace_of link.new, book_of server.new)
-        (turns_in room.new)) }
+        (exchanges_in room.new) (turns_in room.new)) }
     ensures stands { B.honest (book_of server.new)
         → OnOk result (All (IsSentCommitted (B.committed (book_of server.new)))
-        (turns_in room.new)) }
-    ensures receives { OnOk result (ReceivesAtMost most (L.trace_of link.old) (L.trace_of link.new)
         (turns_in room.new)) }
     ensures some { OnOk result (1 ≤ length (turns_in room.new)) }
     ensures few { OnOk result (length (turns_in room.new) ≤ most) }

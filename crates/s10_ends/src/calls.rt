@@ -1,8 +1,8 @@
 //! Calls a server over a link.
 
-ghost use Rattle.std.specs.Prelude.{◌≡◌, ◌≤◌, IsSome};
+ghost use Rattle.std.specs.Prelude.{◌≡◌, ◌≤◌, IsSome, Some};
 ghost use Rattle.s10_link.specs.Link.{LeadsTo};
-ghost use Rattle.s10_ends.specs.Calls.{Calls, Attempts, Listens};
+ghost use Rattle.s10_ends.specs.Calls.{Calls, Tries, Hears, AcceptsOwn};
 ghost use Rattle.s10_ends.specs.Client.{ClientReceives};
 
 use crate::client::{Client, SubmitFault};
@@ -79,8 +79,9 @@ fn attempt<L: Link>(
     frame: &Frame,
 ) -> Result<Option<Reply>, LinkFault>
     requires { IsSome client.old.pending }
-    ensures attempts { Attempts client.old client.new (L.trace_of link.old) (L.trace_of link.new)
-        (to, frame.now) result }
+    ensures tries { (q : Request) → client.old.pending ≡ Some q
+        → Tries (to, frame.now) q (L.trace_of link.old) (L.trace_of link.new) result }
+    ensures client { AcceptsOwn client.old client.new result }
     ensures led { LeadsTo L.step link.old link.new }
 {
     link.send(to, frame)?;
@@ -90,8 +91,9 @@ fn attempt<L: Link>(
 // Returns the first reply that is accepted, out of at most eight datagrams.
 fn first_accepted<L: Link>(client: &mut Client, link: &mut L) -> Result<Option<Reply>, LinkFault>
     requires { IsSome client.old.pending }
-    ensures listens { Listens client.old client.new (L.trace_of link.old) (L.trace_of link.new)
-        result }
+    ensures hears { (q : Request) → client.old.pending ≡ Some q
+        → Hears q (L.trace_of link.old) (L.trace_of link.new) result }
+    ensures client { AcceptsOwn client.old client.new result }
     ensures led { LeadsTo L.step link.old link.new }
 {
     for _read in 0..8u32 {

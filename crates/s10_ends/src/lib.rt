@@ -25,7 +25,7 @@ pub use calls::{CallFault, call};
 pub use client::{BadNumbers, Client, SubmitFault};
 pub use delivery::Delivery;
 pub use exchange::Exchange;
-pub use laws::{batches_compose, batches_survive_stops};
+pub use laws::{batches_compose, batches_survive_stops, traces_say_what_was_carried};
 pub use near_link::NearLink;
 pub use received::Received;
 pub use server::Server;

@@ -8,7 +8,7 @@ ghost use Rattle.s10_ends.specs.Turn.{Turn, ServesOne, StaysWhole};
 use crate::server::Server;
 use crate::turn::serve_one;
 use s10_book::Book;
-use s10_link::{Link, LinkFault, Packet, Peer, Trace};
+use s10_link::{Counts, Link, LinkFault, Packet, Peer};
 use s10_wire::Frame;
 use std::marker::Model;
 
@@ -119,7 +119,7 @@ impl<B: Book, F: Link, N: Link> Link for NearLink<B, F, N> {
         self.near.send(to, frame)
     }
 
-    fn trace(&self) -> Trace {
-        self.near.trace()
+    fn counts(&self) -> Counts {
+        self.near.counts()
     }
 }

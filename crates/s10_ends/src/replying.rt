@@ -1,10 +1,11 @@
 //! Sends the replies to the datagrams that a server received.
 
-ghost use Rattle.std.specs.Prelude.{◌≡◌, ◌≤◌, ◌+◌, [], ⊤, length, vec_capacity, Ok};
+ghost use Rattle.std.specs.Prelude.{◌≡◌, ◌≤◌, ◌+◌, ◌++◌, [], ⊤, length, vec_capacity, Ok};
+ghost use Rattle.std.specs.List.{AllZip};
 ghost use Rattle.s10_link.specs.Link.{LeadsTo};
 ghost use Rattle.s10_ends.specs.Server.{book_of};
-ghost use Rattle.s10_ends.specs.Turn.{Answers, AsksCommitted, SendsReply, SendsCommitted};
-ghost use Rattle.s10_ends.specs.Batch.{AnswersAll};
+ghost use Rattle.s10_ends.specs.Turn.{Answers, AsksCommitted, IsSentTurn, SendsCommitted, sends_for};
+ghost use Rattle.s10_ends.specs.Batch.{sends_of};
 
 use crate::answer::Answer;
 use crate::exchange::Exchange;
@@ -23,8 +24,9 @@ pub(crate) fn answer<B: GroupCommit, L: Link>(
 ) -> Turn
     ensures answers { Answers (B.honest (book_of server.now))
         (AsksCommitted (B.committed (book_of server.now)) (B.history (book_of server.now)))
-        (L.trace_of link.old) (L.trace_of link.new) commit_result taken.now.from taken.now.packet
-        taken.now.answer result }
+        commit_result taken.now.from taken.now.packet taken.now.answer result }
+    ensures sends { L.trace_of link.new ≡ L.trace_of link.old
+        ++ sends_for taken.now.answer taken.now.from result }
     ensures led { LeadsTo L.step link.old link.new }
 {
     match taken.answer {
@@ -36,8 +38,10 @@ pub(crate) fn answer<B: GroupCommit, L: Link>(
 
 // Sends the reply to a datagram whose call is committed, if it has one.
 pub(crate) fn answer_committed<L: Link>(link: &mut L, taken: &Exchange) -> Turn
-    ensures answers { Answers ⊤ (λ b. ⊤) (L.trace_of link.old) (L.trace_of link.new) (Ok tt)
-        taken.now.from taken.now.packet taken.now.answer result }
+    ensures answers { Answers ⊤ (λ b. ⊤) (Ok tt) taken.now.from taken.now.packet taken.now.answer
+        result }
+    ensures sends { L.trace_of link.new ≡ L.trace_of link.old
+        ++ sends_for taken.now.answer taken.now.from result }
     ensures led { LeadsTo L.step link.old link.new }
 {
     match taken.answer {
@@ -55,10 +59,11 @@ fn send_committed<B: GroupCommit, L: Link>(
     frame: Frame,
     commit_result: Result<(), BookFault>,
 ) -> Turn
-    ensures sends { SendsCommitted (B.honest (book_of server.now))
+    ensures answers { SendsCommitted (B.honest (book_of server.now))
         (AsksCommitted (B.committed (book_of server.now)) (B.history (book_of server.now)))
-        (L.trace_of link.old) (L.trace_of link.new) commit_result taken.now.from taken.now.packet
-        frame result }
+        commit_result taken.now.from taken.now.packet frame result }
+    ensures sends { L.trace_of link.new ≡ L.trace_of link.old
+        ++ sends_for (Answer.Reply frame) taken.now.from result }
     ensures led { LeadsTo L.step link.old link.new }
 {
     match commit_result {
@@ -70,7 +75,9 @@ fn send_committed<B: GroupCommit, L: Link>(
 }
 
 fn send<L: Link>(link: &mut L, to: Peer, frame: Frame) -> Turn
-    ensures sends { SendsReply (L.trace_of link.old) (L.trace_of link.new) to frame result }
+    ensures answers { IsSentTurn to frame result }
+    ensures sends { L.trace_of link.new ≡ L.trace_of link.old
+        ++ sends_for (Answer.Reply frame) to result }
     ensures led { LeadsTo L.step link.old link.new }
 {
     link.send(to, &frame)?;
@@ -87,9 +94,10 @@ pub(crate) fn reply_all<B: GroupCommit, L: Link>(
 )
     requires none { turns.old.items ≡ [] }
     requires room { length taken.now ≤ vec_capacity turns.old }
-    ensures answers { AnswersAll (B.honest (book_of server.now))
+    ensures answers { AllZip (λ t turn. Answers (B.honest (book_of server.now))
         (AsksCommitted (B.committed (book_of server.now)) (B.history (book_of server.now)))
-        commit_result (L.trace_of link.old) taken.now turns.new.items (L.trace_of link.new) }
+        commit_result t.from t.packet t.answer turn) taken.now turns.new.items }
+    ensures sends { L.trace_of link.new ≡ L.trace_of link.old ++ sends_of taken.now turns.new.items }
     ensures many { length turns.new.items ≡ length taken.now }
     ensures capacity { vec_capacity turns.new ≡ vec_capacity turns.old }
     ensures led { LeadsTo L.step link.old link.new }

@@ -4,7 +4,7 @@ ghost use Rattle.std.specs.Prelude.{◌≡◌, ◌∷◌, []};
 ghost use Rattle.s10_link.specs.Link.{LeadsTo};
 ghost use Rattle.s10_ends.specs.Server.{book_of};
 ghost use Rattle.s10_ends.specs.Turn.{ServesOne};
-ghost use Rattle.s10_ends.specs.Batch.{ServesBatch, IsSentCommitted, ReceivesAtMost};
+ghost use Rattle.s10_ends.specs.Batch.{ServesBatch, IsSentCommitted};
 
 use crate::committing::commit_if_pending;
 use crate::receiving::take;
@@ -32,10 +32,10 @@ pub fn serve_one<B: Book, L: Link>(server: &mut Server<B>, link: &mut L, day: u3
         (L.trace_of link.old, book_of server.old) (L.trace_of link.new, book_of server.new)
         result }
     ensures served { (B.honest (book_of server.new) → B.committed (book_of server.old)
-        ≡ B.history (book_of server.old)) → ServesBatch B.faults B.honest B.terms B.history
-        B.committed B.clean B.may_find day 1
+        ≡ B.history (book_of server.old)) → (taken : _) × ServesBatch B.faults B.honest
+        B.terms B.history B.committed B.clean B.may_find day 1
         (L.trace_of link.old, book_of server.old) (L.trace_of link.new, book_of server.new)
-        (result ∷ []) }
+        taken (result ∷ []) }
     ensures whole { B.honest (book_of server.new) → B.committed (book_of server.old)
         ≡ B.history (book_of server.old) → B.committed (book_of server.new)
         ≡ B.history (book_of server.new) }
@@ -64,13 +64,12 @@ pub fn serve_batch_of_one<B: GroupCommit, L: Link>(
     link: &mut L,
     day: u32,
 ) -> Turn
-    ensures served { ServesBatch B.faults B.honest B.terms B.history B.committed B.clean B.may_find
-        day 1
+    ensures served { (taken : _) × ServesBatch B.faults B.honest B.terms B.history B.committed B.clean
+        B.may_find day 1
         (L.trace_of link.old, book_of server.old) (L.trace_of link.new, book_of server.new)
-        (result ∷ []) }
+        taken (result ∷ []) }
     ensures stands { B.honest (book_of server.new)
         → IsSentCommitted (B.committed (book_of server.new)) result }
-    ensures receives { ReceivesAtMost 1 (L.trace_of link.old) (L.trace_of link.new) (result ∷ []) }
     ensures led { LeadsTo L.step link.old link.new }
 {
     let Some(taken) = take(server, link, day)? else {

@@ -18,6 +18,12 @@ abbrev pub frame_of : LinkCall → List (Peer × Frame)
 frame_of (calls.Sent to frame) = (to, frame) ∷ []
 frame_of call = []
 
+-- The call, if it sent a frame or failed to send it.
+abbrev pub send_of : LinkCall → List LinkCall
+send_of (calls.Sent to frame) = calls.Sent to frame ∷ []
+send_of (calls.FailedSend to frame) = calls.FailedSend to frame ∷ []
+send_of call = []
+
 -- The datagrams received, in order, each with its sender.
 abbrev pub received_in : Trace → List (Peer × Packet)
 received_in t = flat_map datagram_of t
@@ -26,3 +32,7 @@ received_in t = flat_map datagram_of t
 -- among them.
 abbrev pub sent_in : Trace → List (Peer × Frame)
 sent_in t = flat_map frame_of t
+
+-- The sends, in order, each with its frame and its peer. Those that failed are among them.
+abbrev pub sends_in : Trace → Trace
+sends_in t = flat_map send_of t

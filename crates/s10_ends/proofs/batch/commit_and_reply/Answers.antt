@@ -11,6 +11,7 @@ returns-clause-answered g c = record {
   commit_result = c.commit_if_pending-commit_result.result;
   commits = c.commit_if_pending-commit_result.ensures;
   answers = c.reply_all.ensures.answers;
+  sends = c.reply_all.ensures.sends;
 }
 
 pub returns-clause-many : goal.returns-clause-many

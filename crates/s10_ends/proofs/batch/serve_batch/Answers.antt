@@ -3,7 +3,6 @@ use Rattle.std.proofs.lemmas.Bool.{false≢true}
 use Rattle.std.proofs.lemmas.Result.{err_from_is_err_and}
 use Rattle.s10_ends.specs.declared.exchange.Exchange.{Exchange}
 use Rattle.s10_ends.proofs.Batches.{turns_some, turns_few}
-use Rattle.s10_ends.proofs.ReceiveCount.{batch_receives}
 use Rattle.s10_ends.proofs.Standing.{batch_stands}
 use Rattle.s10_link.specs.Link.LeadsTo.{none}
 use Rattle.s10_link.proofs.Led.{led_on, led_once}
@@ -59,7 +58,6 @@ returns-clause-few g c =
 
 pub returns-clause-served : goal.returns-clause-served
 returns-clause-served g c = record {
-  taken = _;
   between = _;
   ended = c.handle_batch-ended.result;
   takes = c.handle_batch-ended.ensures.taken _ c.receive-first.ensures.trace;
@@ -69,11 +67,7 @@ returns-clause-served g c = record {
 }
 
 pub returns-clause-stands : goal.returns-clause-stands
-returns-clause-stands g c = batch_stands _ _ _ _ _ _ _ c.args.day c.args.most _ _ _
-    (returns-clause-served g c)
-
-pub returns-clause-receives : goal.returns-clause-receives
-returns-clause-receives g c = batch_receives _ _ _ _ _ _ _ c.args.day c.args.most _ _ _
+returns-clause-stands g c = batch_stands _ _ _ _ _ _ _ c.args.day c.args.most _ _ _ _
     (returns-clause-served g c)
 
 pub returns-in_err-clear_for-clause-served : goal.returns-in_err-clear_for-clause-served
@@ -83,10 +77,6 @@ returns-in_err-clear_for-clause-served g c =
 pub returns-in_err-clear_for-clause-stands : goal.returns-in_err-clear_for-clause-stands
 returns-in_err-clear_for-clause-stands g c =
     λ h. rw (err_from_is_err_and c.from_residual.result c.from_residual.ensures.1).1 tt
-
-pub returns-in_err-clear_for-clause-receives : goal.returns-in_err-clear_for-clause-receives
-returns-in_err-clear_for-clause-receives g c =
-    rw (err_from_is_err_and c.from_residual.result c.from_residual.ensures.1).1 tt
 
 pub returns-in_err-clear_for-clause-some : goal.returns-in_err-clear_for-clause-some
 returns-in_err-clear_for-clause-some g c =

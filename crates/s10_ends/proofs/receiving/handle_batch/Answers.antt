@@ -1,9 +1,8 @@
 use Rattle.std.proofs.Common.{◌≡◌, ℕ, ◌<◌, ◌≤◌, [], Some, None, refl, subst, arith, ◌∙◌}
-use Rattle.s10_ends.specs.Batch.ReceivesAll.{none}
 use Rattle.s10_ends.proofs.Filling.{room_for_next, room_for_first, room_kept, one_longer}
 use Rattle.s10_ends.proofs.Filling.{one_pushed, first_pushed, few_of_none, fewer, no_more_than}
 use Rattle.s10_ends.proofs.Filling.{all_held}
-use Rattle.s10_ends.proofs.Batches.{taken_all, one_more, no_more, failed}
+use Rattle.s10_ends.proofs.Batches.{taken_none, taken_all, one_more, no_more, failed}
 use Rattle.s10_link.specs.Link.{Receives}
 use Rattle.s10_link.specs.Link.LeadsTo.{none as none_led}
 use Rattle.s10_ends.proofs.Turns.{taken_with, quiet_is}
@@ -44,14 +43,16 @@ returns-clause-few g c = held_few _ c.loop-more._more c.args.most c.loop-more.in
 
 pub returns-in_err-from-clause-taken : goal.returns-in_err-from-clause-taken
 returns-in_err-from-clause-taken g c = λ begun received.
-    rw c.requires.none (failed _ c.args.most (begun, c.args.server.now.book) _ [] none _
+    rw c.requires.none (failed _ c.args.most (begun, c.args.server.now.book) _ []
+    (taken_none _ c.args.most (begun, c.args.server.now.book)) _
     c.in_err-from.field-0.0 c.from_residual.result (none_yet c.args.most c.requires.some)
     (subst (Receives begun (g.L.Link.trace_of c.args.link.now)) c.in_err-from.was received, refl)
     c.from_residual.ensures.1)
 
 pub returns-in_default-clause-taken : goal.returns-in_default-clause-taken
 returns-in_default-clause-taken g c = λ begun received.
-    rw c.requires.none (no_more _ c.args.most (begun, c.args.server.now.book) _ [] none _ None
+    rw c.requires.none (no_more _ c.args.most (begun, c.args.server.now.book) _ []
+    (taken_none _ c.args.most (begun, c.args.server.now.book)) _ None
     (none_yet c.args.most c.requires.some) (
       quiet_is begun (g.L.Link.trace_of c.args.link.now) c.in_ok-from.field-0
           (subst (Receives begun (g.L.Link.trace_of c.args.link.now)) c.in_ok-from.was received)
@@ -68,7 +69,8 @@ loop-more-init g c = record {
   count = rw (c.push_reserved.ensures.items, c.requires.none) refl;
   takes = λ begun received.
       rw (c.push_reserved.ensures.items, c.requires.none) (one_more _ c.args.most
-      (begun, c.args.server.now.book) _ [] none _ (Some _) _ (
+      (begun, c.args.server.now.book) _ []
+      (taken_none _ c.args.most (begun, c.args.server.now.book)) _ (Some _) _ (
         taken_with begun (g.L.Link.trace_of c.args.link.now) c.in_ok-from.field-0 c.in-Some.from
             c.in-Some.packet _
             (subst (Receives begun (g.L.Link.trace_of c.args.link.now)) c.in_ok-from.was received)

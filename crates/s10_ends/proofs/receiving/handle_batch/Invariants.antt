@@ -3,7 +3,7 @@ use Rattle.std.specs.Prelude.{vec_len, vec_capacity}
 use Rattle.s10_link.specs.declared.trace.Trace.{Trace}
 use Rattle.s10_link.specs.Link.{LeadsTo, Receives}
 use Rattle.s10_ends.specs.Turn.{Handles}
-use Rattle.s10_ends.specs.Batch.{ReceivesAll}
+use Rattle.s10_ends.proofs.Batches.{ReceivesAll}
 use Rattle.s10_ends.proofs.receiving.handle_batch.Given as goal
 
 -- n datagrams were received.

@@ -1,4 +1,4 @@
-use Rattle.std.proofs.Common.{Ok, Err, Some, None, refl}
+use Rattle.std.proofs.Common.{[], ◌∷◌, Ok, Err, Some, None, refl}
 use Rattle.s10_ends.specs.Server.{book_of}
 use Rattle.s10_ends.specs.Turn.{Handles}
 use Rattle.s10_ends.proofs.Turns.{same_error, found_as}
@@ -39,13 +39,16 @@ returns-clause-turn g c = record {
       after c.args.day b answer) _ _
       c.in_ok-taken.field-0 (Some c.in-Some.taken) c.in-Some.is
       c.in_ok-taken.ensures.takes;
-  answers = (refl, c.answer_committed.ensures.answers);
+  answers = (refl, c.answer_committed.ensures.sends, c.answer_committed.ensures.answers);
 }
 
 pub returns-in_err-taken-clause-served : goal.returns-in_err-taken-clause-served
-returns-in_err-taken-clause-served g c = λ whole. one_failed _ _ _ _ _ _ _ c.args.day _ _
-    c.in_err-taken.field-0.0 c.from_residual.result c.in_err-taken.ensures.takes
-    c.from_residual.ensures.1
+returns-in_err-taken-clause-served g c = λ whole. (
+  [],
+  one_failed _ _ _ _ _ _ _ c.args.day _ _
+      c.in_err-taken.field-0.0 c.from_residual.result c.in_err-taken.ensures.takes
+      c.from_residual.ensures.1,
+)
 
 pub returns-in_err-taken-clause-whole : goal.returns-in_err-taken-clause-whole
 returns-in_err-taken-clause-whole g c = λ h whole. c.in_err-taken.ensures.whole c.requires h whole
@@ -55,8 +58,11 @@ returns-in_err-taken-clause-stands g c = λ h whole. turn_of_batch _ _ _ _ _ _ _
     (returns-in_err-taken-clause-served g c (λ _. whole)) h
 
 pub returns-in_default-clause-served : goal.returns-in_default-clause-served
-returns-in_default-clause-served g c = λ whole. one_quiet _ _ _ _ _ _ _ c.args.day _ _
-    c.in_ok-taken.field-0 c.in_ok-taken.ensures.takes c.in_default.is
+returns-in_default-clause-served g c = λ whole. (
+  [],
+  one_quiet _ _ _ _ _ _ _ c.args.day _ _
+      c.in_ok-taken.field-0 c.in_ok-taken.ensures.takes c.in_default.is,
+)
 
 pub returns-in_default-clause-whole : goal.returns-in_default-clause-whole
 returns-in_default-clause-whole g c = λ h whole. c.in_ok-taken.ensures.whole c.requires h whole
@@ -65,10 +71,12 @@ pub returns-in_default-clause-stands : goal.returns-in_default-clause-stands
 returns-in_default-clause-stands g c = λ h whole. tt
 
 pub returns-clause-served : goal.returns-clause-served
-returns-clause-served g c = λ whole.
-    one_committed _ _ _ _ _ _ _ c.args.day _ _ _ c.in_ok-taken.field-0 c.in-Some.taken
-    c.answer_committed.result c.in_ok-taken.ensures.takes c.in-Some.is
-    (λ h. c.in_ok-taken.ensures.whole c.requires h (whole h)) c.answer_committed.ensures.answers
+returns-clause-served g c = λ whole. (
+  c.in-Some.taken ∷ [],
+  one_committed _ _ _ _ _ _ _ c.args.day _ _ _ c.in_ok-taken.field-0 c.in-Some.taken
+      c.answer_committed.result c.in_ok-taken.ensures.takes c.in-Some.is
+      (λ h. c.in_ok-taken.ensures.whole c.requires h (whole h)) c.answer_committed.ensures.answers c.answer_committed.ensures.sends,
+)
 
 pub returns-clause-whole : goal.returns-clause-whole
 returns-clause-whole g c = λ h whole. c.in_ok-taken.ensures.whole c.requires h whole
