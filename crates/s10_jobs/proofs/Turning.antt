@@ -22,6 +22,7 @@ use Rattle.s10_jobs.specs.declared.job_status.JobStatus.TheVariants.{Done, Refus
 use Rattle.s10_jobs.specs.TurnLines.{turn_line}
 use Rattle.s10_ends.specs.Composed.{DatedBatch, BatchesLead, IsBatch, turns_in, days_of}
 use Rattle.s10_book.specs.Book.{Grows}
+use Rattle.s10_ends.proofs.Carrying.{batches_carry}
 use Rattle.s10_ends.proofs.Composing.{all_composed}
 use Rattle.s10_ends.proofs.Stops.{survived}
 use Rattle.s10_jobs.specs.declared.turn_options.TurnOptions.{TurnOptions}
@@ -372,6 +373,8 @@ as_one faults honest terms history committed clean may_find legal first_law foun
       days = on.days;
       guarded = on.fit;
       ends = on.ends;
+      carries = batches_carry faults honest terms history committed clean may_find old new
+          on.serves.batches on.serves.lead;
       composed = all_composed faults honest terms history committed clean may_find legal old new
           on.serves.batches on.serves.lead;
       survives = survived faults honest terms history committed clean may_find legal first_law found

@@ -10,7 +10,8 @@ use Rattle.s10_history.specs.Settings.{Terms}
 use Rattle.s10_book.specs.declared.faults.Faults.{Faults}
 use Rattle.s10_ends.specs.Turn.{Turn}
 use Rattle.s10_ends.specs.Composed.{DatedBatch, BatchesLead, turns_in, days_of, IsBatch}
-use Rattle.s10_ends.specs.Composed.{deliveries_in, answers_in, ServesAll, SurvivesStop}
+use Rattle.s10_ends.specs.Composed.{datagrams_in, deliveries_in, answers_in, replies_in, frames_in}
+use Rattle.s10_ends.specs.Composed.{Carries, ServesAll, SurvivesStop}
 use Rattle.s10_jobs.specs.declared.job_status.JobStatus.{JobStatus}
 use Rattle.s10_jobs.specs.declared.job_status.JobStatus.TheVariants.{Done, Refused, CommandLine}
 use Rattle.s10_jobs.specs.declared.job_status.JobStatus.TheVariants.{Failed}
@@ -54,9 +55,11 @@ module _ {B : Type 0} (faults : B → Faults) (honest : B → Type 0) (terms : B
     (may_find : B → Option (List Entry) → Type 0) where
   -- The turns of a server, `count` of them unless a source of ends ends them, in batches on the given
   -- day, or each on the next day that a source gives. A day that the source gave and the guard refuses
-  -- is no day: no batch was served on it, and the turns ended. If the book is honest after them, they
-  -- give what one run over all their datagrams gives. If it is clean after them and was honest after
-  -- some of them, an opening after a stop finds each call whose reply these sent.
+  -- is no day: no batch was served on it, and the turns ended. The link received exactly the datagrams
+  -- of the batches, and sent exactly the replies to them that their turns name, each to its sender. If
+  -- the book is honest after them, they give what one run over all their datagrams gives. If it is
+  -- clean after them and was honest after some of them, an opening after a stop finds each call whose
+  -- reply these sent.
   pub record ServesTurns {D E : Type 0} (gives : D → Option ℕ → D → Type 0) (options : TurnOptions)
       (says : E → Bool → E → Type 0) (old new : Trace × B) (before after : D) (begun ended : E)
       (held now : Option (List ℕ)) (result : Result JobStatus WriteFault) : Type 0
@@ -69,11 +72,9 @@ module _ {B : Type 0} (faults : B → Faults) (honest : B → Type 0) (terms : B
           (λ (s : Trace × B) day. IsServedDay honest history (guard_of options) s.1 day) old new
           serves.batches serves.lead
       pub ends : AreEnded says serves.batches options.count result begun ended
+      pub carries : Carries old.0 new.0 (datagrams_in serves.batches) (replies_in serves.batches)
+          (frames_in (turns_in serves.batches))
       pub composed : honest new.1 → ServesAll faults honest terms history committed clean may_find
-          old.1 new.1
-          (deliveries_in faults honest terms history committed clean may_find old new serves.batches
-          serves.lead)
-          (answers_in faults honest terms history committed clean may_find old new serves.batches
-          serves.lead)
+          old.1 new.1 (deliveries_in serves.batches) (answers_in serves.batches)
           (turns_in serves.batches)
       pub survives : SurvivesStop faults honest terms history committed clean may_find old new

@@ -2,7 +2,7 @@
 
 ghost use Rattle.std.specs.Prelude.{◌≡◌, IfOk, IfErr};
 ghost use Rattle.s10_link.specs.UdpLink.{IsBoundAt};
-ghost use Rattle.s10_link.specs.Trace.{new_trace};
+ghost use Rattle.s10_link.specs.Link.{new_trace};
 ghost use Rattle.s10_jobs.specs.Questioning.{any_address};
 
 use s10_link::{LinkFault, Peer, UdpLink};

@@ -2,7 +2,7 @@
 
 ghost use Rattle.std.specs.Prelude.{◌≡◌, None, IfSome};
 ghost use Rattle.s10_link.specs.UdpLink.{IsBoundAt};
-ghost use Rattle.s10_link.specs.Trace.{new_trace};
+ghost use Rattle.s10_link.specs.Link.{new_trace};
 ghost use Rattle.s10_jobs.specs.Serving.{ServesTurns};
 ghost use Rattle.s10_jobs.specs.Unbound.{IsUnbound};
 

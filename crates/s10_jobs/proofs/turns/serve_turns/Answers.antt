@@ -39,7 +39,11 @@ returns-in_err-print_turns-in-Ok-clause-turns g c =
     (batch_unprinted _ _ _ g.D.Days.gives c.args.options.day g.E.Ending.says _ _ _ _ _ _ _ _ _ _ _ _ _
     c.loop-done.done c.args.options.count
     c.loop-done.invariant.served
-    (record { day = c.in-Some.today; turns = c.serve_batch.new.room.turns.items }) c.from_residual.result _
+    (record {
+      day = c.in-Some.today;
+      taken = c.serve_batch.new.room.taken.items;
+      turns = c.serve_batch.new.room.turns.items;
+    }) c.from_residual.result _
     c.from_residual.ensures.1
     (subst (λ (b : Bool). g.E.Ending.says c.loop-done.ends b c.is_due.new.self) c.if-is_due.false
     c.is_due.ensures)
@@ -59,18 +63,26 @@ returns-in_err-print_turns-in-Err-clause-turns g c =
     (batch_unprinted _ _ _ g.D.Days.gives c.args.options.day g.E.Ending.says _ _ _ _ _ _ _ _ _ _ _ _ _
     c.loop-done.done c.args.options.count
     c.loop-done.invariant.served
-    (record { day = c.in-Some.today; turns = c.serve_batch_of_one-turn.result ∷ [] })
+    (record {
+      day = c.in-Some.today;
+      taken = c.serve_batch_of_one-turn.ensures.served.0;
+      turns = c.serve_batch_of_one-turn.result ∷ [];
+    })
     c.from_residual-in_err-print_turns-in-Err.result _
     c.from_residual-in_err-print_turns-in-Err.ensures.1
     (subst (λ (b : Bool). g.E.Ending.says c.loop-done.ends b c.is_due.new.self) c.if-is_due.false
     c.is_due.ensures)
     (begun_alike (λ at. IsBatch g.B.Book.faults g.B.Book.honest g.B.Book.terms g.B.Book.history
     g.B.Book.committed g.B.Book.clean g.B.Book.may_find at
-    (record { day = c.in-Some.today; turns = c.serve_batch_of_one-turn.result ∷ [] }) (
+    (record {
+      day = c.in-Some.today;
+      taken = c.serve_batch_of_one-turn.ensures.served.0;
+      turns = c.serve_batch_of_one-turn.result ∷ [];
+    }) (
       g.L.Link.trace_of c.serve_batch_of_one-turn.new.link,
       c.serve_batch_of_one-turn.new.server.book,
     )) _ _ _ _ c.in-Err.ensures.refused.0 c.in-Err.ensures.refused.1
-    (1, c.serve_batch_of_one-turn.ensures.served))
+    (1, c.serve_batch_of_one-turn.ensures.served.1))
     next.0 next.1
     (one_fits c.loop-done.done c.args.options.count c.loop-done-test.true))
 
@@ -96,7 +108,11 @@ loop-done-preserved g c =
                 w.in-Ok.ensures.few;
             served = batch_served _ _ (λ s day. ⊥) g.D.Days.gives c.args.options.day g.E.Ending.says _ _ _ _ _ _ _ _ _ _ _ _ _
                 c.loop-done.done c.args.options.count c.loop-done.invariant.served
-                (record { day = c.in-Some.today; turns = turns })
+                (record {
+                  day = c.in-Some.today;
+                  taken = c.serve_batch.new.room.taken.items;
+                  turns = turns;
+                })
                 (subst (λ (b : Bool). g.E.Ending.says c.loop-done.ends b c.is_due.new.self) c.if-is_due.false
                 c.is_due.ensures)
                 (c.min-most.result, w.in-Ok.ensures.served)
@@ -109,16 +125,24 @@ loop-done-preserved g c =
             few = one_fits c.loop-done.done c.args.options.count c.loop-done-test.true;
             served = batch_served _ _ (λ s day. ⊥) g.D.Days.gives c.args.options.day g.E.Ending.says _ _ _ _ _ _ _ _ _ _ _ _ _
                 c.loop-done.done c.args.options.count c.loop-done.invariant.served
-                (record { day = c.in-Some.today; turns = w.serve_batch_of_one-turn.result ∷ [] })
+                (record {
+                  day = c.in-Some.today;
+                  taken = w.serve_batch_of_one-turn.ensures.served.0;
+                  turns = w.serve_batch_of_one-turn.result ∷ [];
+                })
                 (subst (λ (b : Bool). g.E.Ending.says c.loop-done.ends b c.is_due.new.self) c.if-is_due.false
                 c.is_due.ensures)
                 (begun_alike (λ at. IsBatch g.B.Book.faults g.B.Book.honest g.B.Book.terms
                 g.B.Book.history g.B.Book.committed g.B.Book.clean g.B.Book.may_find at
-                (record { day = c.in-Some.today; turns = w.serve_batch_of_one-turn.result ∷ [] }) (
+                (record {
+                  day = c.in-Some.today;
+                  taken = w.serve_batch_of_one-turn.ensures.served.0;
+                  turns = w.serve_batch_of_one-turn.result ∷ [];
+                }) (
                   g.L.Link.trace_of w.serve_batch_of_one-turn.new.link,
                   w.serve_batch_of_one-turn.new.server.book,
                 )) _ _ _ _ w.in-Err.ensures.refused.0 w.in-Err.ensures.refused.1
-                (1, w.serve_batch_of_one-turn.ensures.served))
+                (1, w.serve_batch_of_one-turn.ensures.served.1))
                 next.0 next.1
                 w.in_ok-print_turns-in-Err.ensures;
             led = led_on c.loop-done.invariant.led (led_on w.in-Err.ensures.led
