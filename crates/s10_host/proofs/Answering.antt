@@ -11,7 +11,7 @@ use Rattle.s10_link.specs.declared.link_fault.LinkFault.TheVariants.{Bind}
 use Rattle.s10_lines.specs.declared.write_fault.WriteFault.{WriteFault}
 use Rattle.s10_lines.specs.Lines.{line_of}
 use Rattle.s10_link.specs.Peer.{SpellsPeer}
-use Rattle.s10_link.specs.Trace.{new_trace}
+use Rattle.s10_link.specs.Link.{new_trace}
 use Rattle.s10_link.specs.UdpLink.{BoundLink, IsBoundAt}
 use Rattle.s10_ends.specs.Client.{ClientState, new_client}
 use Rattle.s10_ends.specs.Calls.{Calls}

@@ -14,7 +14,7 @@ use Rattle.s10_link.specs.Link.{LeadsTo}
 use Rattle.s10_link.specs.Link.LeadsTo.{none as led_none, more}
 use Rattle.s10_link.proofs.Led.{led_on}
 use Rattle.s10_link.proofs.Bound.{at_stays, still_bound}
-use Rattle.s10_link.specs.Trace.{new_trace}
+use Rattle.s10_link.specs.Link.{new_trace}
 use Rattle.s10_history.specs.declared.entry.Entry.{Entry}
 use Rattle.s10_history.specs.Settings.{Terms}
 use Rattle.s10_ledger.specs.Ledger.{IsOverCleanDisk, MayFind, Ledger, IsHonest, history_in}

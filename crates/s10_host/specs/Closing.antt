@@ -3,7 +3,7 @@ use Rattle.std.specs.Prelude.{◌≡◌, ℕ, Bool, List, [], length, Option, Re
 use Rattle.sqlite_trees.specs.declared.store.Store.{Ghosts}
 use Rattle.sqlite.specs.Held.{Held, state}
 use Rattle.s10_lines.specs.declared.write_fault.WriteFault.{WriteFault}
-use Rattle.s10_link.specs.Trace.{new_trace}
+use Rattle.s10_link.specs.Link.{new_trace}
 use Rattle.s10_link.specs.UdpLink.{BoundLink}
 use Rattle.s10_history.specs.History.{day_of}
 use Rattle.s10_book.specs.declared.book_fault.BookFault.{BookFault}

@@ -7,7 +7,7 @@ use Rattle.sqlite.specs.Steps.{over_memory}
 use Rattle.s10_lines.specs.declared.write_fault.WriteFault.{WriteFault}
 use Rattle.s10_lines.specs.Lines.{line_of}
 use Rattle.s10_link.specs.declared.peer.Peer.{Peer}
-use Rattle.s10_link.specs.Trace.{new_trace}
+use Rattle.s10_link.specs.Link.{new_trace}
 use Rattle.s10_link.specs.Link.{LeadsTo}
 use Rattle.s10_history.specs.Settings.{Terms}
 use Rattle.s10_ledger.specs.Ledger.{IsOverCleanDisk, MayFind, Ledger, IsHonest, history_in}

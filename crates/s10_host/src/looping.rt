@@ -6,7 +6,7 @@ ghost use Rattle.s10_ends.specs.NearLink.{IsNearStep};
 ghost use Rattle.s10_ends.specs.Server.{book_of};
 ghost use Rattle.s10_link.specs.UdpLink.{BoundLink, IsBoundAt};
 ghost use Rattle.s10_link.specs.Link.{LeadsTo};
-ghost use Rattle.s10_link.specs.Trace.{new_trace};
+ghost use Rattle.s10_link.specs.Link.{new_trace};
 ghost use Rattle.s10_jobs.specs.Shown.{Prints};
 ghost use Rattle.s10_jobs.specs.LoopCalls.{loop_calls, AreMadeInTurn};
 ghost use Rattle.s10_host.specs.JobResources.{looped_in};
