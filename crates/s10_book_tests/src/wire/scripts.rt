@@ -1,17 +1,12 @@
 //! Links that follow a script.
 
 use s10_core::{Country, Service};
-use s10_link::{Link, LinkFault, Packet, Peer, Receipt, ScriptLink, Trace};
+use s10_link::{Counts, Link, LinkFault, Packet, Peer, Receipt, ScriptLink};
 use s10_test_help::expect::same;
 use s10_wire::{Body, Frame, Request, encode_request};
 use std::alloc::{AllocError, Global};
 use std::process::Abort;
 use std::test::Fail;
-
-const NEAR: Peer = Peer {
-    ip: [127, 0, 0, 1],
-    port: 4711,
-};
 
 const FAR: Peer = Peer {
     ip: [10, 0, 0, 2],
@@ -46,14 +41,22 @@ fn new_link<R: Abort + AllocGlobal>(rt: &R, packet: Packet) -> ScriptLink {
     new_script(rt.alloc(), packet).expect(rt, "a link")
 }
 
-/// Returns whether the link's trace and log are these.
-fn has_met(link: &ScriptLink, trace: Trace, log: &[(Peer, Frame)]) -> bool {
-    link.trace() == trace && link.log() == log
+/// The counts of a link without calls.
+const NO_CALLS: Counts = Counts {
+    calls: 0,
+    failures: 0,
+    sends: 0,
+    received: 0,
+};
+
+/// Returns whether the link's counts and log are these.
+fn has_met(link: &ScriptLink, counts: Counts, log: &[(Peer, Frame)]) -> bool {
+    link.counts() == counts && link.log() == log
 }
 
-/// Asserts that the link's trace and log are these, and drops the link.
-fn ends_with(rt: &impl Abort, link: ScriptLink, trace: Trace, log: &[(Peer, Frame)]) {
-    assert!(rt; has_met(&link, trace, log));
+/// Asserts that the link's counts and log are these, and drops the link.
+fn ends_with(rt: &impl Abort, link: ScriptLink, counts: Counts, log: &[(Peer, Frame)]) {
+    assert!(rt; has_met(&link, counts, log));
 }
 
 /// Returns whether four receives give the packet, nothing, a failure, and nothing.
@@ -82,20 +85,17 @@ fn sends_end(rt: &(impl Abort + Eprint), link: &mut ScriptLink) {
 fn calls_follow_the_script(rt: HostRuntime) {
     let packet = Packet::new(b"a datagram");
     let mut link = new_link(&rt, packet);
-    let is_new = has_met(&link, Trace::new(), &[]);
+    let is_new = has_met(&link, NO_CALLS, &[]);
     assert!(rt; is_new && receives_in_turn(&mut link, packet));
     sends_end(&rt, &mut link);
     let first = draw(1);
-    let trace = Trace {
+    let counts = Counts {
         calls: 6,
         failures: 2,
         sends: 1,
-        alike: 1,
         received: 1,
-        taken: Some((FAR, packet)),
-        given: Some((FAR, first)),
     };
-    ends_with(&rt, link, trace, &[(FAR, first)]);
+    ends_with(&rt, link, counts, &[(FAR, first)]);
 }
 
 /// Returns whether receives that wait and receives that do not wait follow the one script.
@@ -111,49 +111,13 @@ fn try_receive_gives_the_next_receipt(rt: HostRuntime) {
     let packet = Packet::new(b"a datagram");
     let mut link = new_link(&rt, packet);
     assert!(rt; receives_at_once(&mut link, packet));
-    let trace = Trace {
+    let counts = Counts {
         calls: 4,
         failures: 1,
         received: 1,
-        taken: Some((FAR, packet)),
-        ..Trace::new()
+        ..NO_CALLS
     };
-    ends_with(&rt, link, trace, &[]);
-}
-
-/// Returns a link that sends six times.
-fn six_sends(alloc: Global) -> Result<ScriptLink, AllocError> {
-    ScriptLink::new(alloc, Vec::new(alloc), vec![in alloc; true; 6]?)
-}
-
-/// Destination and number of each Draw, and the number of equal sends in a row after it.
-const ALIKE: &[(Peer, u32, u64)] = &[
-    (FAR, 1, 1),
-    (FAR, 1, 2),
-    (NEAR, 1, 1),
-    (NEAR, 2, 1),
-    (NEAR, 2, 2),
-    (NEAR, 2, 3),
-];
-
-/// Sends a Draw. Returns the result, and the number of equal sends in a row after it.
-fn send_and_count_equal(
-    link: &mut ScriptLink,
-    to: Peer,
-    number: u32,
-) -> (Result<(), LinkFault>, u64) {
-    let sent = link.send(to, &draw(number));
-    (sent, link.trace().alike)
-}
-
-#[test]
-fn alike_counts_the_last_equal_sends(rt: HostRuntime) {
-    let mut link = six_sends(rt.alloc()).expect(&rt, "a link");
-    for (to, number, alike) in ALIKE {
-        let found = send_and_count_equal(&mut link, *to, *number);
-        assert!(rt; same(&rt, &(to, number), &found, &(Ok(()), *alike)));
-    }
-    assert!(rt; link.trace().sends == 6 && link.log().len() == 6);
+    ends_with(&rt, link, counts, &[]);
 }
 
 const TEXTS: &[(LinkFault, &str)] = &[

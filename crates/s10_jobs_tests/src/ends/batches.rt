@@ -98,7 +98,7 @@ fn follows_script<B: GroupCommit>(alloc: Global, server: &mut Server<B>, script:
             return false;
         }
     }
-    has_sent(&link, script.replies) && link.trace().calls == script.calls
+    has_sent(&link, script.replies) && link.counts().calls == script.calls
 }
 
 /// Returns whether a script over an empty book ends as expected and leaves n calls in the book.

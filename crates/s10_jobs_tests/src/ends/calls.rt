@@ -71,7 +71,7 @@ fn is_answered_once(alloc: Global, receipts: &[Meets]) -> bool {
             2,
             Fails::Submit(SubmitFault::NumbersSpent),
         )
-        && link.trace().calls == 5
+        && link.counts().calls == 5
 }
 
 /// Nothing, a reply to another request, the right reply from a stranger, and a failure that no
@@ -113,8 +113,8 @@ fn is_unanswered(alloc: Global, told: &Unanswered) -> bool {
     let mut client = Client::new(7, 1, 2).unwrap();
     has_failed(&mut client, &mut link, told.tries, told.fails)
         && has_sent(&link, told.sent)
-        && link.trace().calls == told.calls
-        && link.trace().received == told.received
+        && link.counts().calls == told.calls
+        && link.counts().received == told.received
         && client.submit(Asked::Draw.body()) == Ok(request(2))
 }
 

@@ -1,19 +1,27 @@
 //! Links of two sockets of this machine.
 
 use crate::ends::fixtures::{ANY_PORT, bound, request};
-use s10_link::{Link, LinkFault, Packet, Trace, UdpLink};
+use s10_link::{Counts, Link, LinkFault, Packet, UdpLink};
 use s10_test_help::datagrams::DRAW;
 use s10_test_help::expect::holds;
 use s10_wire::{Frame, encode_request};
 use std::net::Net;
 use std::process::Abort;
 
+/// The counts of a link without calls.
+const NO_CALLS: Counts = Counts {
+    calls: 0,
+    failures: 0,
+    sends: 0,
+    received: 0,
+};
+
 /// Returns whether two unused links are bound to two ports of this machine.
 fn are_apart(near: &UdpLink, far: &UdpLink) -> bool {
     near.local().ip == ANY_PORT.ip
         && near.local().port != 0
         && near.local() != far.local()
-        && near.trace() == Trace::new()
+        && near.counts() == NO_CALLS
 }
 
 /// Sends the frame from one link to the other. Returns whether it arrives as this packet.
@@ -31,18 +39,14 @@ fn passes_both_ways(near: &mut UdpLink, far: &mut UdpLink, frame: &Frame, packet
     passes(near, far, frame, packet) && passes(far, near, frame, packet) && is_refused(near, frame)
 }
 
-/// Returns whether a link sent the frame once to the other link, received the packet from it, and
-/// failed in a third call.
-fn has_counted(near: &UdpLink, far: &UdpLink, frame: Frame, packet: Packet) -> bool {
-    near.trace()
-        == Trace {
+/// Returns whether a link sent one frame, received one datagram, and failed in a third call.
+fn has_counted(link: &UdpLink) -> bool {
+    link.counts()
+        == Counts {
             calls: 3,
             failures: 1,
             sends: 1,
-            alike: 1,
             received: 1,
-            taken: Some((far.local(), packet)),
-            given: Some((far.local(), frame)),
         }
 }
 
@@ -55,7 +59,7 @@ fn datagrams_pass_over_loopback(rt: HostRuntime) {
     let frame = encode_request(&request(1));
     let packet = Packet::new(DRAW);
     assert!(rt; passes_both_ways(&mut near, &mut far, &frame, packet));
-    assert!(rt; has_counted(&near, &far, frame, packet));
+    assert!(rt; has_counted(&near));
 }
 
 /// Returns whether receives that do not wait give the frame only after it was sent, and a receive
@@ -75,8 +79,8 @@ fn receives_what_has_arrived(
 
 /// Returns whether the link counts these calls and received datagrams.
 fn has_received(link: &UdpLink, calls: u64, received: u64) -> bool {
-    let trace = link.trace();
-    trace.calls == calls && trace.received == received
+    let counts = link.counts();
+    counts.calls == calls && counts.received == received
 }
 
 // A receive that waits would take longer than a test may.
@@ -93,7 +97,7 @@ fn what_has_arrived_is_received_without_waiting(rt: HostRuntime) {
 /// Returns whether a receive that waits `wait_ms` milliseconds gets nothing and does not fail.
 fn hears_nothing<R: Abort + Net>(rt: &R, wait_ms: u32) -> bool {
     let mut link = bound(rt, wait_ms);
-    link.receive() == Ok(None) && link.trace().calls == 1 && link.trace().failures == 0
+    link.receive() == Ok(None) && link.counts().calls == 1 && link.counts().failures == 0
 }
 
 #[test]
