@@ -1,11 +1,11 @@
 -- Texts that a writer gets one after another.
 use Rattle.std.proofs.Common.{◌≡◌, ℕ, List, [], ◌∷◌, ◌++◌, Option, Some, None, refl, sym, ap, subst}
-use Rattle.std.proofs.Common.{◌∙◌, append_assoc}
+use Rattle.std.proofs.Common.{◌∙◌, append_assoc, append-nil}
 use Rattle.std.specs.Io.KnownBytes.{Appends}
-use Rattle.std.specs.Prelude.{OnOk, Result, Ok, Err}
-use Rattle.s10_lines.specs.Lines.{spaced}
+use Rattle.std.specs.Prelude.{OnOk, codes, Result, Ok, Err}
+use Rattle.s10_lines.specs.Lines.{spaced, line_of}
 
-Appends-then : (u v w : Option (List ℕ)) (a b : List ℕ) → Appends u v a → Appends v w b
+pub Appends-then : (u v w : Option (List ℕ)) (a b : List ℕ) → Appends u v a → Appends v w b
     → Appends u w (a ++ b)
 Appends-then None v w a b x y = tt
 Appends-then (Some xs) None w a b x y = absurd x
@@ -21,7 +21,7 @@ spaced-append (word ∷ words) more =
     ∙ sym (append_assoc (32 ∷ word) (spaced words) (spaced more))
 
 -- Words written after others are all of them, in order.
-words_then : (u v w : Option (List ℕ)) (words more : List (List ℕ)) → Appends u v (spaced words)
+pub words_then : (u v w : Option (List ℕ)) (words more : List (List ℕ)) → Appends u v (spaced words)
     → Appends v w (spaced more) → Appends u w (spaced (words ++ more))
 words_then u v w words more first second =
     let P : List ℕ → Type 0 = λ text. Appends u w text in
@@ -41,3 +41,19 @@ pub same_word : {T E : Type 0} (u v : Option (List ℕ)) (a b : List ℕ) (r : R
     → OnOk r (Appends u v (spaced (a ∷ []))) → OnOk r (Appends u v (spaced (b ∷ [])))
 same_word u v a b r e written = let P : List ℕ → Type 0 =
     λ word. OnOk r (Appends u v (spaced (word ∷ []))) in subst P e written
+
+-- A first word, other words and a line feed are a line.
+pub line_follows : {T E : Type 0} (u v w x : Option (List ℕ)) (first : List ℕ)
+    (words : List (List ℕ)) (r : Result T E)
+    → Appends u v first → Appends v w (spaced words) → OnOk r (Appends w x (codes "\n"))
+    → OnOk r (Appends u x (line_of first words))
+line_follows u v w x first words (Ok done) a b c =
+    Appends-then u w x (first ++ spaced words) (codes "\n") (Appends-then u v w first (spaced words)
+    a b) c
+line_follows u v w x first words (Err fault) a b c = tt
+
+-- No words append nothing.
+pub Appends-nothing : (u : Option (List ℕ)) → Appends u u (spaced [])
+unfolding spaced
+Appends-nothing None = tt
+Appends-nothing (Some xs) = sym (append-nil xs)
