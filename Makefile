@@ -33,7 +33,7 @@ used_by = $(patsubst $(1)/%,%,$(filter $(1)/%,$(uses)))
 sources_of = $(filter crates/$(1)/src/% crates/$(1)/specs/% crates/$(1)/proofs/%,$(files))
 # What a crate is proved with, and the word `again` if it was proved with something else.
 means_of = $(used_by) by $(shell cat $(kit)/KIT-ID)
-again_if_other = $(if $(findstring <$(means_of)>,<$(file < $(built)/$(1).proved)>),,again)
+again_if_other = $(if $(findstring <$(means_of)>,<$(strip $(file < $(built)/$(1).proved))>),,again)
 library_of = $(if $(filter $(1),$(crates)),../../$(built),$(kit)/rlibs)/$(1).rlib
 jobs_of = $(if $(filter $(1),$(alone)),$(lastword $(places)),$(if $(filter $(1),$(two_jobs)),2,1))
 result_of = $(if $(filter s10,$(1)),src/main.rt --backend rattle --toolchain $(kit)/toolchain -o ../../$(built)/s10.o, \

@@ -61,6 +61,7 @@ WRONG = {
     "the other crates go on": ("s10", "            end_make\n", '            wait "$make"\n'),
     "a process is left": ("s10", 'kill -- -"$make" && sleep 0.3 && kill -KILL -- -"$make"', 'kill "$make"'),
     "a change is not seen": ("Makefile", "$(sources_of)", ""),
+    "the end of a line makes it another": ("Makefile", "$(strip $(file < $(built)/$(1).proved))", "$(file < $(built)/$(1).proved)"),
     "a second use does not wait": ("s10", "flock 9", "true"),
     "a crate is proved again after an interruption": ("Makefile", "mv ../../$(built)/$(1).begun ../../$$@", "true"),
     "all crates are proved again": ("Makefile", "<$(means_of)>,<", "<$(means_of)>,<not "),
@@ -189,6 +190,16 @@ def try_builds(room):
     (room.top / "crates.txt").write_text(text)
 
 
+def try_kits(room):
+    """Another kit builds all again, and the same one nothing, however long its name is."""
+    for length in range(10, 400, 60):
+        (room.folder / "kit" / "KIT-ID").write_text("k" * length + "\n")
+        (room.top / ".build" / "began").unlink(missing_ok=True)
+        must_build(room.run(), room.needed)
+        (room.top / ".build" / "began").unlink()
+        must_build(room.run(), ())
+
+
 def try_lines_in_time(room):
     """Each line is there when its crate is proved."""
     room.set(seconds=0.3)
@@ -264,7 +275,7 @@ def try_two_at_once(room):
 
 
 def try_all(script, makefile):
-    for trial in (try_builds, try_lines_in_time, try_a_terminal, try_a_refused_crate, try_interruptions, try_two_at_once):
+    for trial in (try_builds, try_kits, try_lines_in_time, try_a_terminal, try_a_refused_crate, try_interruptions, try_two_at_once):
         with tempfile.TemporaryDirectory(ignore_cleanup_errors=True) as folder:
             room = Room(pathlib.Path(folder).resolve(), script, makefile)
             try:
