@@ -45,9 +45,9 @@ version=$(sed -n 's/^## \([0-9.]*\).*/\1/p' "$top/CHANGELOG.md" | head -n 1)
 [ "$(sed -n 's/^VERSION = //p' "$c/Makefile")" = "$version" ] || fail "the Makefile has another version than CHANGELOG.md"
 grep -qx "version = \"$version\"" "$top/contrib/python/pyproject.toml" || fail "pyproject.toml has another version"
 
-# Memory functions of C and nothing else are needed; what the header declares and nothing else is exported.
+# No function but memory functions of C is needed; what the header declares and nothing else is exported.
 needed=$(nm -u "$library" | awk '$1 == "U" {print $2}' | sort -u | xargs)
-[ "$needed" = "memcpy memmove memset" ] || fail "the library needs $needed"
+[ -z "$(tr ' ' '\n' <<<"$needed" | grep -vxE 'memcpy|memmove|memset')" ] || fail "the library needs $needed"
 exported=$(nm -D --defined-only "$shared" | awk '{print $3}' | sort | xargs)
 declared=$(grep -oE '\bs10_[a-z_]+\(' "$c/s10.h" | tr -d '(' | sort -u | xargs)
 [ "$exported" = "$declared" ] || fail "exported $exported, declared $declared"
