@@ -224,12 +224,13 @@ def try_modes(client, folder, address, numbers):
         os.chmod(path, mode)
         if os.geteuid() == 0:
             os.chown(path, 4711, 4712)
-        before = os.stat(path)
+        before, text = os.stat(path), Path(path).read_bytes()
         drawn, printed, _ = draw(client, path, address)
         after = os.stat(path)
         holds(f"{client} drew nothing", len(drawn) == 1, printed)
         kept = [(it.st_mode, it.st_uid, it.st_gid) for it in (before, after)]
-        holds(f"{client} changed the mode or the owner", kept[0] == kept[1] and before.st_ino != after.st_ino, kept)
+        holds(f"{client} changed the mode or the owner", kept[0] == kept[1], kept)
+        holds(f"{client} did not change the notes", Path(path).read_bytes() != text, text)
 
 
 def make_and_kill(path, kill_after=None):
