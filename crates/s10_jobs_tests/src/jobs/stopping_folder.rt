@@ -1,6 +1,7 @@
 //! A folder of notes in memory that stops at one of its calls.
 
-ghost use Rattle.std.specs.Prelude.{◌≡◌, ◌∷◌, reverse};
+ghost use Rattle.std.specs.Prelude.{◌≡◌, ◌∷◌, reverse, IfErr};
+ghost use Rattle.s10_notes.specs.Folder.{IsStore};
 
 use http_server::Log;
 use s10_notes::{Folder, FolderCall, Names, NotesFault, Text};
@@ -59,7 +60,9 @@ fn text_of(bytes: &[u8]) -> Text {
     }
 }
 
-fn result_of(fate: Fate) -> Result<(), NotesFault> {
+fn result_of(fate: Fate) -> Result<(), NotesFault>
+    ensures { IfErr result IsStore }
+{
     match fate {
         Fate::Succeeds => Ok(()),
         Fate::FailsDone | Fate::Fails => Err(NotesFault::Store),
