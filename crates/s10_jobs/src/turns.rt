@@ -87,6 +87,7 @@ where
             return Ok(JobStatus::Done);
         }
         let Some(today) = day_of_batch(rt, days, &options, server.book()) else {
+            drops.eprint_rest();
             return fail_by_clock(out);
         };
         ledger.eprint_day(server.book(), today);

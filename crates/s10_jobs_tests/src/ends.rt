@@ -20,5 +20,6 @@ mod turn_ends;
 mod turns;
 mod udp_addresses;
 mod udp_links;
+mod waiting;
 mod withdrawals;
 mod worlds;

@@ -487,6 +487,71 @@ fn a_clock_that_gives_no_day_ends_the_turns(rt: HostRuntime) {
     assert!(rt; are_served(&Standing(None), rt.alloc(), &DAYLESS));
 }
 
+/// A source that gives day 20,000 this many times, and then none.
+#[derive(Drop)]
+struct RunsOut {
+    left: u32,
+}
+
+impl Days for RunsOut {
+    ghost use Rattle.std.specs.Prelude.{⊤};
+
+    ghost gives = { λ old answer new. ⊤ };
+
+    fn next(&mut self) -> Option<u32> {
+        self.left = self.left.checked_sub(1)?;
+        Some(20_000)
+    }
+}
+
+/// Returns whether standard error has this text if no day is left after `batches` batches of
+/// dropped datagrams.
+fn are_named_at_the_end(alloc: Global, batches: u32, told: &str) -> bool {
+    let rt = Listening::new(alloc, 0);
+    let Ok(mut link) = link_of(alloc, FOUR_DROPPED.receipts, &[]) else {
+        return false;
+    };
+    let mut server = new_server(alloc);
+    let mut days = RunsOut { left: batches };
+    let served = serve_turns(
+        &rt,
+        alloc,
+        &mut server,
+        &mut link,
+        &mut days,
+        &mut AtCount,
+        on(4, None),
+        &mut Vec::new(alloc),
+    );
+    served == Ok(JobStatus::Failed) && has_told(rt, told)
+}
+
+/// The number of batches before the source gives no day, and what standard error shows.
+const NAMED_AT_THE_END: &[(u32, &str)] = &[
+    (1, "dropped from 10.0.0.8:40123\n"),
+    (
+        2,
+        "dropped from 10.0.0.8:40123\ndropped from 10.0.0.8:40123\n",
+    ),
+    (
+        3,
+        "dropped from 10.0.0.8:40123\ndropped 2 datagrams, the last from 10.0.0.7:4711\n",
+    ),
+];
+
+#[test]
+fn dropped_datagrams_are_named_before_an_end_by_the_clock(rt: HostRuntime) {
+    for (batches, told) in NAMED_AT_THE_END {
+        assert!(rt;
+            holds(
+                &rt,
+                batches,
+                are_named_at_the_end(rt.alloc(), *batches, told)
+            )
+        );
+    }
+}
+
 /// Returns whether this is the day of a clock `seconds` after 1970 began, if no day is given.
 fn is_day_after(seconds: u64, day: Option<u32>) -> bool {
     let clock = Standing(Some(Duration::from_secs(seconds)));
