@@ -2,6 +2,7 @@
 
 use crate::ends::fixtures::{granted_server, is_answered};
 use crate::links::{Meets, link_of};
+use s10_book::PlainBook;
 use s10_ends::{BatchRoom, Client, NearLink, serve_batch, serve_batch_of_one, serve_one};
 use s10_link::{Counts, Link, LinkFault, Packet, Peer, ScriptLink};
 use s10_test_help::asked::Asked;
@@ -149,8 +150,8 @@ fn a_call_waits_for_each_datagram(rt: HostRuntime) {
     );
 }
 
-/// Returns how an end of a network asks, if the near end waits and then looks.
-fn asked_by_near_link(alloc: Global, is_far: bool) -> Option<Vec<Asks>> {
+/// Returns a link to a near server that waited for a datagram, and then looked for one.
+fn used_near_link(alloc: Global) -> Option<NearLink<PlainBook, ListingLink, ListingLink>> {
     let mut link = NearLink {
         server: granted_server(alloc, 100),
         far: ListingLink::over(alloc, TWO)?,
@@ -159,14 +160,28 @@ fn asked_by_near_link(alloc: Global, is_far: bool) -> Option<Vec<Asks>> {
     };
     let _ = link.receive();
     let _ = link.try_receive();
-    let end = if is_far { link.far } else { link.near };
-    Some(end.asked)
+    Some(link)
 }
 
 #[test]
 fn a_near_link_waits_only_if_it_is_asked_to(rt: HostRuntime) {
-    let far = asked_by_near_link(rt.alloc(), true);
-    assert!(rt; are(&rt, &"far", far, &[Waits, Waits]));
-    let near = asked_by_near_link(rt.alloc(), false);
-    assert!(rt; are(&rt, &"near", near, &[Waits, Looks]));
+    let Some(link) = used_near_link(rt.alloc()) else {
+        panic!(rt; "no link");
+    };
+    assert!(rt;
+        same(
+            &rt,
+            &"far",
+            &link.far.asked.as_slice(),
+            &[Waits, Waits].as_slice()
+        )
+    );
+    assert!(rt;
+        same(
+            &rt,
+            &"near",
+            &link.near.asked.as_slice(),
+            &[Waits, Looks].as_slice()
+        )
+    );
 }
