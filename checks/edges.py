@@ -195,16 +195,19 @@ WRONG = (
     ["create", "--ledger", "ledger", "--interval", "x", "--limit", "1"],
     ["serve", "--ledger", "ledger", "--bind", "127.0.0.1:0", "--count", "none"],
     ["help", "bogus"],
+    ["draw", "--to", "127.0.0.1:9", "--service", "RA", "--country", "GB"],
+    ["report", "--ledger", "ledger", "--id", "RA473124828US"],
 )
+# The whole of what a fault prints: its error, what it lists, how the command is used, and where to read more.
+FAULT = re.compile(r"error: \S.*\n(  \S.*\n)*\n(Usage: s10 .*\n\n)?For more information, try '--help'\.\n")
 
 
 def try_wrong_lines(_):
-    """What is no command line has status 2, nothing on standard output, and one error on standard error."""
+    """What is no command line has status 2, nothing on standard output, and on standard error one fault and nothing else."""
     for words in WRONG:
         status, out, err = run(*words)
         same(f"s10 {' '.join(words)}: status and output", (2, ""), (status, out))
-        same(f"s10 {' '.join(words)}: errors", 1, len(re.findall("^error: ", err, re.MULTILINE)))
-        same(f"s10 {' '.join(words)}: begins with its error", True, err.startswith("error: "))
+        same(f"s10 {' '.join(words)}: prints its fault alone: {err!r}", True, FAULT.fullmatch(err) is not None)
     status, out, err = run()
     same("s10 without words: status and output", (2, ""), (status, out))
     same("s10 without words: its help", run("--help")[1], err)
@@ -246,9 +249,12 @@ def try_help(_):
         status, out, err = run(*words)
         name = f"s10 {' '.join(words)}"
         same(f"{name}: status and errors", (0, ""), (status, err))
-        times = len(re.findall("^Usage: s10", out, re.MULTILINE)), out.count(out.split("\n")[0])
-        same(f"{name}: how often it stands", (1, 1), times)
+        times = [len(re.findall(f"^{part}", out, re.MULTILINE)) for part in (re.escape(out.split("\n")[0]), "Usage: s10", "Options:")]
+        same(f"{name}: how often it and its parts stand", [1, 1, 1], times)
+        same(f"{name}: its end", True, re.search(r"\S\n\Z", out) is not None)
     same("the forms of help", 1, len({run(*words)[1] for words in asked[:3]}))
+    for it in commands:
+        same(f"the forms of help of {it}", run(it, "--help")[1], run("help", it)[1])
     print(f"{len(asked)} forms of help: each stands once")
 
 
