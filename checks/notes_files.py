@@ -2,7 +2,8 @@
 """Tries the files of notes by each of the clients: `s10`, the client in Python and, if DRAW names it, `s10_draw` of contrib/c.
 
 Two names: by a symbolic link each client must use the file that it names. No identifier is drawn twice, and a client that has the
-notes open keeps the others out by either name. With a hard link each client must refuse the notes, and leave them as they were.
+notes open keeps the others out by either name, also while it waits for a reply. With a hard link each client must refuse the notes,
+and leave them as they were.
 Odd files: a pipe, a device, a folder or a symbolic link at the path of the notes, of `.new` or of `.lock` is refused at once.
 Modes: notes have the mode of those that they replace, and as root the owner; new ones are for their owner alone.
 
@@ -11,6 +12,7 @@ Modes: notes have the mode of those that they replace, and as root the owner; ne
 
 import os
 import re
+import socket
 import subprocess
 import sys
 import tempfile
@@ -148,6 +150,35 @@ def try_held(folder, address, numbers, clients):
     holds("the notes afterwards", len(drawn) == 1 and drawn != [first], printed)
 
 
+def try_waiting(folder, numbers):
+    """Two runs of `s10` with one notes file at once: while one waits for its reply, each other is refused and sends nothing."""
+    folder = folder_of(folder, "waiting")
+    names = names_of(folder, new_notes(folder, numbers))
+    with socket.socket(socket.AF_INET, socket.SOCK_DGRAM) as silent:
+        silent.bind(("127.0.0.1", 0))
+        silent.settimeout(60)
+        address = silent.getsockname()
+        with subprocess.Popen([*words_of("s10", names[0], address), "--tries", "5"], stdout=subprocess.PIPE, text=True) as waiting:
+            first = silent.recv(2048)
+            written = Path(names[0]).read_bytes()
+            for name in names:
+                drawn, printed, status = draw("s10", name, address)
+                holds(f"a draw beside one that waits, by {name}", (drawn, printed, status) == ([], "notes locked\n", 3), printed, status)
+                again = s10("again", "--to", "{}:{}".format(*address), "--notes", name)
+                holds(f"again beside a draw that waits, by {name}", again == "notes locked\n", again)
+            holds("the one that waits has ended", waiting.poll() is None)
+            waiting.kill()
+        silent.settimeout(0.1)
+        sent = {first}
+        try:
+            while True:
+                sent.add(silent.recv(2048))
+        except socket.timeout:
+            pass
+        holds("another request was sent", sent == {first}, sent)
+    holds("the notes changed", Path(names[0]).read_bytes() == written)
+
+
 def try_hard_link(client, folder, address, numbers):
     """Gives notes a hard link, beside or in another folder: both names are refused, and both files stay. Without it the notes are
     used again."""
@@ -272,6 +303,7 @@ def main():
                 try_odd_files(client, folder, server.address, numbers)
                 try_modes(client, folder, server.address, numbers)
             try_held(folder, server.address, numbers, clients)
+            try_waiting(folder, numbers)
             try_killed_making(folder)
         except Failed as why:
             print(f"failed: {why}")

@@ -1,9 +1,10 @@
-/* Loaded by LD_PRELOAD, this refuses the program memory or stops its disk, as the environment says:
+/* Loaded by LD_PRELOAD, this refuses the program memory, stops its disk or gives it files in parts, as the environment says:
 
      REFUSE_MEMORY=N            refuses the N-th request for memory, counted from 1
      STOP_FILE=PATH STOP_AT=K   refuses the K-th change of that file, counted from 0, and every later one. The first write that
                                 is refused leaves its first half. Earlier writes stay, and reads succeed.
-     REFUSED=PATH               creates this file when something was refused
+     PARTS=N                    reads and writes at most N bytes of a file at once, and interrupts each third of these calls
+     REFUSED=PATH               creates this file when something was refused or cut
 
    cc -O1 -shared -fPIC -o refuse.so refuse.c */
 #define _GNU_SOURCE
@@ -13,6 +14,7 @@
 #include <stdio.h>
 #include <stdlib.h>
 #include <string.h>
+#include <sys/stat.h>
 #include <sys/syscall.h>
 #include <unistd.h>
 
@@ -25,12 +27,16 @@ static long refused_request = 0;
 static long requests = 0;
 static long stopped_change = -1;
 static long changes = 0;
+static long part = 0;
+static long parts = 0;
 
 __attribute__((constructor)) static void read_environment(void) {
     const char *request = getenv("REFUSE_MEMORY");
     const char *change = getenv("STOP_AT");
+    const char *most = getenv("PARTS");
     if (request) refused_request = atol(request);
     if (change) stopped_change = atol(change);
+    if (most) part = atol(most);
     requests = 0;
 }
 
@@ -91,8 +97,28 @@ static long stop(void) {
     return -1;
 }
 
+/* Shortens a call to a part, if it is one of a file. Whether it is interrupted. */
+static int is_cut(int file, size_t *length) {
+    struct stat found;
+    if (part <= 0 || fstat(file, &found) || !S_ISREG(found.st_mode)) return 0;
+    if (++parts % 3 == 0) {
+        errno = EINTR;
+        return 1;
+    }
+    if (*length > (size_t)part) {
+        *length = (size_t)part;
+        tell_refused();
+    }
+    return 0;
+}
+
+ssize_t read(int file, void *bytes, size_t length) {
+    return is_cut(file, &length) ? -1 : syscall(SYS_read, file, bytes, length);
+}
+
 ssize_t write(int file, const void *bytes, size_t length) {
     int first = 0;
+    if (is_cut(file, &length)) return -1;
     if (!is_stopped(file, &first)) return syscall(SYS_write, file, bytes, length);
     if (first) syscall(SYS_write, file, bytes, length / 2);
     return stop();

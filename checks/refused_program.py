@@ -1,6 +1,7 @@
 #!/usr/bin/env python3
 """Refuses the program its first request for memory, then its second, and so on. Stops its disk at the first change of a file, then
-at the second, and so on (checks/refuse.c). Each series ends with a run that meets no refusal.
+at the second, and so on (checks/refuse.c). Each series ends with a run that meets no refusal. Gives it notes and ledgers in parts,
+with interruptions: it must use the whole.
 
 After each run the program must open the ledger. It must have the calls that got a reply, and no others but earlier ones whose reply
 was withheld. Asked again, each call must get the reply that it got, or the one that was withheld.
@@ -294,6 +295,39 @@ def stop_disk(room):
         each_refusal(f"changes of {file} by audit of an earlier build's", room, refusals, complete)
 
 
+def read_in_parts(room):
+    """Notes with the longest request, and a ledger, are written and read in parts. Each command ends as with whole ones."""
+    silent = socket.socket(socket.AF_INET, socket.SOCK_DGRAM)
+    silent.bind(("127.0.0.1", 0))
+    to = ["--to", "{}:{}".format(*silent.getsockname()), "--tries", "1"]
+    last = ["--first", "4294967294", "--last", "4294967295"]
+    ledger = make(f"{room}/whole", [(20000, FIRST)])
+    for part in (2, 7, 50):
+        here = f"{room}/parts-{part}"
+        os.mkdir(here)
+        env = {"LD_PRELOAD": f"{room}/refuse.so", "PARTS": str(part), "REFUSED": f"{here}-cut"}
+        notes, copy = f"{here}/notes", f"{here}/copy"
+        for words, expected in (
+            (["notes", "--file", notes, "--customer", "0", *last], (0, "created\n")),
+            (["again", *to, "--notes", notes], (1, "refused answered\n")),
+            (["grant", *to, "--notes", notes, "--holder", "4294967295", "--service", "RA", "--country", "GB",
+              "--first", "99999998", "--last", "99999999"], (3, "gave-up\n")),
+            (["again", *to, "--notes", notes], (3, "gave-up\n")),
+            (["copy", "--ledger", ledger, "--to", copy], (0, "copied 7\n")),
+            (["audit", "--ledger", ledger, "--snapshot"], (0, "ledger ok 7\n")),
+        ):
+            Path(env["REFUSED"]).unlink(missing_ok=True)
+            found = run(words, env)
+            if (found.returncode, found.stdout) != expected:
+                fail(f"{words[0]} in parts of {part}: {found.returncode} {found.stdout.strip()}, not {expected}")
+            if not Path(env["REFUSED"]).exists():
+                fail(f"{words[0]} in parts of {part}: nothing was cut")
+        if audit(copy) != "ledger ok 7":
+            fail(f"a copy in parts of {part}: {audit(copy)}")
+    silent.close()
+    print("notes and ledgers in parts: used as a whole", flush=True)
+
+
 def kill_server(ledger):
     """Starts a server and kills it, so that its log stays."""
     words = [PROGRAM, "serve", "--ledger", ledger, "--bind", "127.0.0.1:0", "--count", "1000", "--day", "20030"]
@@ -307,6 +341,7 @@ def kill_server(ledger):
 def main():
     with tempfile.TemporaryDirectory() as room:
         subprocess.run(["cc", "-O1", "-shared", "-fPIC", "-o", f"{room}/refuse.so", str(HERE / "refuse.c")], check=True)
+        read_in_parts(room)
         refuse_memory(room)
         stop_disk(room)
 
