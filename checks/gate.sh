@@ -14,7 +14,8 @@ set -u -o pipefail
 
 # The checks that must run under CI. The others need a browser, tshark, or the right to mount a disk.
 GATE_MUST='front_door counts build_log texts edges completions pages killed_server killed_server_64 until killed_notes
-    days_ahead trials refused_program together snapshots shards sizes package library c_library draw notes_files notes_examples'
+    days_ahead trials refused_program together snapshots shards sizes package library c_library draw notes_files notes_examples
+    synced refused_sockets'
 
 top=$(dirname "$(dirname "$(readlink -f "${BASH_SOURCE[0]}")")")
 room=$(mktemp -d) || exit
@@ -150,6 +151,8 @@ run_checks() {
     check full_disk 1200 'program unshare mount' sh "$checks/full_disk.sh" "$s10"
     check trials 1800 'program sqlite3' sh "$checks/trials.sh" "$s10"
     check refused_program 1800 'program python3 cc' python3 "$checks/refused_program.py" "$s10" 211
+    check synced 600 'program python3 strace' python3 "$checks/synced.py" "$s10"
+    check refused_sockets 300 'program python3 strace' python3 "$checks/refused_sockets.py" "$s10"
     check together 900 'program python3' env TMPDIR="$memory" python3 "$checks/together.py" "$s10"
     check snapshots 300 'program python3' env TMPDIR="$memory" python3 "$checks/snapshots.py" "$s10"
     check shards 900 'program python3' env TMPDIR="$memory" bash "$checks/shards.sh" "$s10" 2000
