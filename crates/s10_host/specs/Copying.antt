@@ -8,7 +8,7 @@ use Rattle.s10_lines.specs.declared.write_fault.WriteFault.{WriteFault}
 use Rattle.s10_rows.specs.declared.open_fault.OpenFault.{OpenFault}
 use Rattle.s10_rows.specs.declared.open_fault.OpenFault.TheVariants.{Store}
 use Rattle.s10_snapshot.specs.Copies.{CopyCalls, WritesCopy}
-use Rattle.s10_snapshot.specs.Readings.{IsTaken, Readings}
+use Rattle.s10_snapshot.specs.Readings.{IsTaken, ReadCalls}
 use Rattle.s10_snapshot.specs.declared.copy_fault.CopyFault.{CopyFault}
 use Rattle.s10_snapshot.specs.declared.copy_fault.CopyFault.TheVariants as copy
 use Rattle.s10_snapshot.specs.declared.ledger_bytes.LedgerBytes.{LedgerBytes}
@@ -59,7 +59,7 @@ module _ (old new : Option (List ℕ)) (result : Result JobStatus WriteFault) wh
 
   -- The copy was written, and then its files were read until a snapshot of them was taken or could
   -- not be. Or the line says why the copy was not written, and nothing was read.
-  abbrev pub EndsCopy : Result (Unit {0}) CopyFault → Readings → Option MemoryConnection → Type 0
+  abbrev pub EndsCopy : Result (Unit {0}) CopyFault → ReadCalls → Option MemoryConnection → Type 0
   EndsCopy (Ok _) read left = (again : Result LedgerBytes SnapshotFault) × IsTaken read again
       × EndsAudit again left
   EndsCopy (Err fault) read left = (read ≡ []) × (left ≡ None)
@@ -68,7 +68,7 @@ module _ (old new : Option (List ℕ)) (result : Result JobStatus WriteFault) wh
 
   -- The snapshot of the ledger was written to new files. Or the line says why there is none, and
   -- nothing was created.
-  abbrev pub EndsSnapshot : Result LedgerBytes SnapshotFault → CopyCalls → Readings
+  abbrev pub EndsSnapshot : Result LedgerBytes SnapshotFault → CopyCalls → ReadCalls
       → Option MemoryConnection → Type 0
   EndsSnapshot (Ok bytes) calls read left = (written : Result (Unit {0}) CopyFault)
       × WritesCopy bytes calls written × EndsCopy written read left
@@ -78,11 +78,11 @@ module _ (old new : Option (List ℕ)) (result : Result JobStatus WriteFault) wh
   -- The ledger at a path was copied to another one, as the readings and calls that are returned say.
   pub record IsCopied (path to : List ℕ) (used : CopyResources) : Type 0 where
     pub from : used.source.path ≡ path
-    pub at : used.target.path ≡ to
+    pub at : used.target.paths ≡ record { copy = to; ledger = path }
     pub again_at : used.again.path ≡ to
     pub snapshot : Result LedgerBytes SnapshotFault
-    pub taken : IsTaken used.source.readings snapshot
-    pub ends : EndsSnapshot snapshot used.target.calls used.again.readings used.left
+    pub taken : IsTaken used.source.calls snapshot
+    pub ends : EndsSnapshot snapshot used.target.calls used.again.calls used.left
 
 -- The ledger was copied, or there is no seed and nothing was read.
 abbrev pub HasCopied : List ℕ → List ℕ → Option (List ℕ) → Option (List ℕ)

@@ -139,7 +139,7 @@ pub record HasLookedAt (path : List ℕ) (job : SnapshotJob) (old new : Option (
     (result : Result JobStatus WriteFault) (resources : SnapshotResources) : Type 0 where
   pub at : resources.source.path ≡ path
   pub snapshot : Result LedgerBytes SnapshotFault
-  pub taken : IsTaken resources.source.readings snapshot
+  pub taken : IsTaken resources.source.calls snapshot
   pub ends : EndsLook snapshot job resources.left old new result
 
 module _ {C : Type 0} (gives : C → Option ℕ → C → Type 0) where

@@ -40,9 +40,9 @@ pub(crate) fn run_copy<'a, F, W: Write>(
         Err(fault) => return not_connected(fault, out),
     };
     let mut source = HostSource::new(rt, ledger);
-    let mut target = HostTarget::new(rt, to);
+    let mut target = HostTarget::new(rt, to, ledger);
     let mut again = HostSource::new(rt, to);
-    match take_snapshot(&mut source) {
+    match take_snapshot(rt.alloc(), &mut source) {
         Ok(bytes) => {
             let (done, left) = copy_to(rt, to, seed, bytes, &mut target, &mut again, out);
             JobEnd {
@@ -78,10 +78,10 @@ fn copy_to<W: Write>(
     out: &mut W,
 ) -> (Result<JobStatus, WriteFault>, Option<MemoryConnection>)
     requires unwritten { target.old.calls ≡ [] }
-    requires unread { again.old.readings ≡ [] }
+    requires unread { again.old.calls ≡ [] }
     ensures copied { EndsSnapshot (W.contents out.old) (W.contents out.new) result.0 (Ok bytes)
-        target.new.calls again.new.readings result.1 }
-    ensures at { target.new.path ≡ target.old.path }
+        target.new.calls again.new.calls result.1 }
+    ensures at { target.new.paths ≡ target.old.paths }
     ensures again_at { again.new.path ≡ again.old.path }
 {
     match write_copy(target, bytes) {
@@ -98,12 +98,12 @@ fn audit_copy<W: Write>(
     again: &mut HostSource<'_>,
     out: &mut W,
 ) -> (Result<JobStatus, WriteFault>, Option<MemoryConnection>)
-    requires unread { again.old.readings ≡ [] }
+    requires unread { again.old.calls ≡ [] }
     ensures copied { EndsCopy (W.contents out.old) (W.contents out.new) result.0 (Ok tt)
-        again.new.readings result.1 }
+        again.new.calls result.1 }
     ensures at { again.new.path ≡ again.old.path }
 {
-    match take_snapshot(again) {
+    match take_snapshot(rt.alloc(), again) {
         Ok(bytes) => audit_bytes(rt, path, seed, bytes, out),
         Err(fault) => (fail_by_snapshot(fault, out), None),
     }

@@ -54,7 +54,7 @@ pub(crate) fn run_snapshot<'a, F, D: Days, W: Write>(
         Err(fault) => return not_connected(fault, out),
     };
     let mut source = HostSource::new(rt, ledger);
-    match take_snapshot(&mut source) {
+    match take_snapshot(rt.alloc(), &mut source) {
         Ok(bytes) => {
             let (done, left) = look_at(rt, ledger, seed, bytes, job, out);
             JobEnd {

@@ -1,12 +1,18 @@
-use crate::ledger_bytes::LedgerBytes;
+use crate::part::Part;
 
-/// A call on the two new files of a copy.
+/// A call on the two new files of a copy, or on the folder that they are in.
 #[derive(Drop)]
 pub enum CopyCall {
-    /// Both were created.
-    Create,
-    /// The bytes were written to them.
-    Write(LedgerBytes),
-    /// What they hold, and their names, were made to survive a stop of the machine.
-    Sync,
+    /// A new file was created, beside the name that it gets later.
+    Create(Part),
+    /// The bytes were appended to it.
+    Write(Part, Vec<u8>),
+    /// What it holds was made to survive a stop of the machine.
+    Sync(Part),
+    /// It got its name, in place of the one beside.
+    Name(Part),
+    /// The names in the folder were made to survive a stop of the machine.
+    SyncFolder,
+    /// It was removed.
+    Remove(Part),
 }

@@ -2,8 +2,8 @@
 
 ghost use Rattle.std.specs.Prelude.{◌≡◌, ◌∷◌, []};
 
-use crate::ledger_bytes::LedgerBytes;
-use crate::reading::{HEADER_LEN, Reading};
+use crate::part::Part;
+use crate::read_call::ReadCall;
 use crate::snapshot_fault::ReadFault;
 use crate::source::Source;
 use http_server::Log;
@@ -18,22 +18,22 @@ pub struct HostSource<'a> {
     rt: &'a HostRuntime,
     path: &'a str,
     // Proofs alone read it.
-    log: Log<Result<Reading, ReadFault>, bool>,
+    log: Log<ReadCall, Result<Vec<u8>, ReadFault>>,
 }
 
 impl<'a> Model for HostSource<'a> {
-    ghost use Rattle.std.specs.Prelude.{map, reverse};
+    ghost use Rattle.std.specs.Prelude.{reverse};
     ghost use Rattle.s10_snapshot.specs.Readings.{HostSourceState};
 
     ghost Value = { HostSourceState };
 
-    ghost view = { λ s. record { path = s.path.now; readings = map (λ r. r.0) (reverse s.log.items) } };
+    ghost view = { λ s. record { path = s.path.now; calls = reverse s.log.items } };
 }
 
 impl<'a> HostSource<'a> {
     /// Returns the source of readings of the ledger at the path. Reads nothing yet.
     pub fn new(rt: &'a HostRuntime, path: &'a str) -> HostSource<'a>
-        ensures { result ≡ record { path = path.now; readings = [] } }
+        ensures { result ≡ record { path = path.now; calls = [] } }
     {
         HostSource {
             rt,
@@ -42,59 +42,53 @@ impl<'a> HostSource<'a> {
         }
     }
 
-    // Logs a reading.
-    fn log_reading(&mut self, reading: &Result<Reading, ReadFault>)
-        ensures { self.new ≡ record { path = self.old.path; readings = reading.now ∷ self.old.readings } }
+    // Logs a call and what it returned.
+    fn log_call(&mut self, call: ReadCall, read: &Result<Vec<u8>, ReadFault>)
+        ensures { self.new ≡ record {
+          path = self.old.path;
+          calls = (call, read.now) ∷ self.old.calls;
+        } }
     {
-        self.log = self.log.and(reading, &reading.is_ok());
+        self.log = self.log.and(&call, read);
     }
 }
 
 impl Source for HostSource<'_> {
     ghost path = { λ s. s.path };
 
-    ghost readings = { λ s. s.readings };
+    ghost calls = { λ s. s.calls };
 
-    fn read(&mut self) -> Result<Reading, ReadFault> {
-        let reading = read_at(self.rt, self.path);
-        self.log_reading(&reading);
-        reading
+    fn read(&mut self, part: Part, most: u64) -> Result<Vec<u8>, ReadFault> {
+        let read = read_at(self.rt, self.path, part, most);
+        self.log_call(ReadCall { part, most }, &read);
+        read
     }
 }
 
-// Reads the files of the ledger at a path. Prints to standard error why they cannot be read.
-fn read_at(rt: &HostRuntime, path: &str) -> Result<Reading, ReadFault> {
-    match read_files(rt, path) {
-        Ok(reading) => Ok(reading),
+// Reads a file of the ledger at a path. Prints to standard error why it cannot be read, unless a log
+// is missing.
+fn read_at(rt: &HostRuntime, path: &str, part: Part, most: u64) -> Result<Vec<u8>, ReadFault> {
+    match read_part(rt, path, part, most) {
+        Ok(bytes) => Ok(bytes),
         Err(cause) => {
-            let _ = eprintln!(rt; "cannot open {path}: {cause}");
-            Err(fault_of(rt, path, &cause))
+            let fault = fault_of(rt, path, &cause);
+            if part == Part::File || fault != ReadFault::Missing {
+                let _ = eprintln!(rt; "cannot open {path}: {cause}");
+            }
+            Err(fault)
         }
     }
 }
 
 // The log is beside the target of a symbolic link.
-fn read_files(rt: &HostRuntime, path: &str) -> io::Result<Reading> {
+fn read_part(rt: &HostRuntime, path: &str, part: Part, most: u64) -> io::Result<Vec<u8>> {
     let real = fs::canonicalize(rt, path)?;
-    let log = format!(in rt.alloc(); "{}-wal", real.as_str())?;
-    let before = read_log(rt, log.as_str(), HEADER_LEN as u64)?;
-    let file = read_file(rt, real.as_str(), u64::MAX)?;
-    let bytes = LedgerBytes {
-        file,
-        log: read_log(rt, log.as_str(), u64::MAX)?,
-    };
-    Ok(Reading {
-        before,
-        bytes,
-        after: read_log(rt, log.as_str(), HEADER_LEN as u64)?,
-    })
-}
-
-// Returns the first bytes of a log, at most this many. A missing log has none.
-fn read_log(rt: &HostRuntime, path: &str, most: u64) -> io::Result<Vec<u8>> {
-    match read_file(rt, path, most) {
-        Err(cause) if cause.kind() == ErrorKind::NotFound => Ok(Vec::new(rt.alloc())),
-        read => read,
+    match part {
+        Part::File => read_file(rt, real.as_str(), most),
+        Part::Log => {
+            let log = format!(in rt.alloc(); "{}-wal", real.as_str())?;
+            read_file(rt, log.as_str(), most)
+        }
     }
 }
 

@@ -1,9 +1,13 @@
 //! One reading of a ledger's two files.
 
 ghost use Rattle.std.specs.Prelude.{◌≡◌, ◌↔◌, take, IsTrue};
-ghost use Rattle.s10_snapshot.specs.Readings.{IsOfOneLog};
+ghost use Rattle.s10_snapshot.specs.Readings.{GivesLog, IsOfOneLog, IsRead};
 
 use crate::ledger_bytes::LedgerBytes;
+use crate::part::Part;
+use crate::snapshot_fault::ReadFault;
+use crate::source::Source;
+use std::alloc::Global;
 
 /// The length in bytes of the header of a log.
 pub const HEADER_LEN: usize = 32;
@@ -17,6 +21,38 @@ pub struct Reading {
     pub bytes: LedgerBytes,
     /// The header after the log was read. Shorter if the log was.
     pub after: Vec<u8>,
+}
+
+/// Reads the files of a ledger once, and the header of its log before and after.
+///
+/// # Errors
+///
+/// The fault of the first call that failed. A missing log is none: it has no bytes.
+pub fn read_files<S: Source>(alloc: Global, source: &mut S) -> Result<Reading, ReadFault>
+    ensures read { IsRead (S.calls source.old) (S.calls source.new) result }
+    ensures at { S.path source.new ≡ S.path source.old }
+{
+    let before = read_log(alloc, source, HEADER_LEN as u64)?;
+    let file = source.read(Part::File, u64::MAX)?;
+    let log = read_log(alloc, source, u64::MAX)?;
+    let after = read_log(alloc, source, HEADER_LEN as u64)?;
+    Ok(Reading {
+        before,
+        bytes: LedgerBytes { file, log },
+        after,
+    })
+}
+
+// Returns the first bytes of the log. A missing log has none.
+fn read_log<S: Source>(alloc: Global, source: &mut S, most: u64) -> Result<Vec<u8>, ReadFault>
+    ensures given { GivesLog most (S.calls source.old) (S.calls source.new) result }
+    ensures at { S.path source.new ≡ S.path source.old }
+{
+    match source.read(Part::Log, most) {
+        Ok(log) => Ok(log),
+        Err(ReadFault::Missing) => Ok(Vec::new(alloc)),
+        Err(fault) => Err(fault),
+    }
 }
 
 /// Returns whether the log was not begun anew while the files were read.

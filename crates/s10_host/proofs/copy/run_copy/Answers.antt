@@ -20,7 +20,7 @@ returns-in-Ok-take_snapshot g c = record {
   at = rw c.copy_to-done.ensures.at (rw c.new-target.ensures refl);
   again_at = rw c.copy_to-done.ensures.again_at (rw c.new-again.ensures refl);
   snapshot = Ok c.in-Ok-take_snapshot.bytes;
-  taken = subst (λ r. IsTaken c.take_snapshot.new.source.readings r) c.in-Ok-take_snapshot.is
+  taken = subst (λ r. IsTaken c.take_snapshot.new.source.calls r) c.in-Ok-take_snapshot.is
       c.take_snapshot.ensures.taken;
   ends = c.copy_to-done.ensures.copied;
 }
@@ -31,7 +31,7 @@ returns-in-Err-take_snapshot g c = record {
   at = rw c.new-target.ensures refl;
   again_at = rw c.new-again.ensures refl;
   snapshot = Err c.in-Err-take_snapshot.fault;
-  taken = subst (λ r. IsTaken c.take_snapshot.new.source.readings r) c.in-Err-take_snapshot.is
+  taken = subst (λ r. IsTaken c.take_snapshot.new.source.calls r) c.in-Err-take_snapshot.is
       c.take_snapshot.ensures.taken;
   ends = (
     rw c.new-target.ensures refl,

@@ -35,7 +35,7 @@ returns-in-Ok-take_snapshot g c = record {
     record {
       at = rw c.take_snapshot.ensures.at (rw c.new-source.ensures refl);
       snapshot = Ok c.in-Ok-take_snapshot.bytes;
-      taken = subst (λ r. IsTaken c.take_snapshot.new.source.readings r) c.in-Ok-take_snapshot.is
+      taken = subst (λ r. IsTaken c.take_snapshot.new.source.calls r) c.in-Ok-take_snapshot.is
           c.take_snapshot.ensures.taken;
       ends = ends_look c.in-Ok-take_snapshot.bytes c.in-Some.job c.look_at-done.result.1
           (g.W.Write.contents c.args.out.now) (g.W.Write.contents c.look_at-done.new.out)
@@ -53,7 +53,7 @@ returns-in-Err-take_snapshot g c = record {
     record {
       at = rw c.take_snapshot.ensures.at (rw c.new-source.ensures refl);
       snapshot = Err c.in-Err-take_snapshot.fault;
-      taken = subst (λ r. IsTaken c.take_snapshot.new.source.readings r) c.in-Err-take_snapshot.is
+      taken = subst (λ r. IsTaken c.take_snapshot.new.source.calls r) c.in-Err-take_snapshot.is
           c.take_snapshot.ensures.taken;
       ends = (refl, c.fail_by_snapshot.ensures);
     },
