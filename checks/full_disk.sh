@@ -1,7 +1,7 @@
 #!/bin/sh
 # Fills the disk of a server while clients draw, frees it, and lets the same server continue: once while its log grows, and once
 # after the log was moved into the file. On the full disk a draw whose call cannot be written must get no reply, and a repeat of an
-# earlier draw its identifier. Once there is space, each draw must get a reply. Then a server with pending calls reaches its
+# earlier draw its identifier, and a copy onto it must leave nothing. Once there is space, each draw must get a reply. Then a server with pending calls reaches its
 # `--count` on a full disk: it must print `ledger store` and end with status 3. Every draw that got a reply must be in the report,
 # no identifier may be on two draws, and the audit must print `ledger ok`.
 #
@@ -197,6 +197,10 @@ fill_and_free() { # BYTES COMMAND WORDS
     cp "$ledger" copy
     cp "$ledger-wal" copy-wal
     check_ledger copy answered
+    status=0
+    copied=$("$s10" copy --ledger "$ledger" --to "$disk/backup" 2>/dev/null) || status=$?
+    [ "$status $copied" = '3 ledger store' ] || fail "a copy onto a full disk: $status $copied"
+    if ls "$disk" | grep backup; then fail 'a copy onto a full disk left files'; fi
     withheld=$(withheld)
 
     # The same server, with space. The first draw is a new one; the calls that are pending are committed with it.

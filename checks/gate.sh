@@ -14,8 +14,8 @@ set -u -o pipefail
 
 # The checks that must run under CI. The others need a browser, tshark, or the right to mount a disk.
 GATE_MUST='front_door counts build_log texts edges completions pages killed_server killed_server_64 until killed_notes
-    days_ahead trials refused_program together snapshots shards sizes package library c_library draw notes_files notes_examples
-    file_size_limit synced refused_sockets'
+    killed_copy days_ahead trials refused_program together snapshots shards sizes package library c_library draw notes_files
+    notes_examples file_size_limit synced refused_sockets'
 
 top=$(dirname "$(dirname "$(readlink -f "${BASH_SOURCE[0]}")")")
 room=$(mktemp -d) || exit
@@ -148,6 +148,7 @@ run_checks() {
     check killed_server_64 900 program sh "$checks/killed_server.sh" "$s10" 64
     check until 300 program sh "$checks/until.sh" "$s10"
     check killed_notes 900 'program python3' python3 "$checks/killed_notes.py" "$s10" 50
+    check killed_copy 600 'program cc python3' python3 "$checks/killed_copy.py" "$s10"
     check days_ahead 300 program sh "$checks/days_ahead.sh" "$s10"
     check full_disk 1200 'program unshare mount' sh "$checks/full_disk.sh" "$s10"
     check trials 1800 'program sqlite3' sh "$checks/trials.sh" "$s10"

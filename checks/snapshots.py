@@ -4,12 +4,16 @@ it shows.
 
   python3 checks/snapshots.py [PROGRAM]
 
+A look at a pipe, a device or a folder is refused at once, and so is one at a ledger whose log cannot be read.
+
 The looks are `report --issues --snapshot`, `audit --snapshot` and `copy`, in turn, for ten seconds; a copy is audited too. The ledger
 is in a new folder of TMPDIR (or /tmp). One look in ten may end as `ledger busy`. Neither file of the ledger, nor its folder, is
 changed by a look at the end.
 """
 
+import os
 import selectors
+import shutil
 import subprocess
 import tempfile
 import threading
@@ -113,6 +117,24 @@ def copy(ledger, drawing):
     return True
 
 
+def refuse_odd_files(ledger):
+    """Looks at what is no file, and at a copy of a ledger's file beside a log that cannot be read."""
+    with tempfile.TemporaryDirectory() as room:
+        os.mkfifo(f"{room}/pipe")
+        shutil.copy(ledger, f"{room}/ledger")
+        Path(f"{room}/ledger-wal").mkdir()
+        for odd in (f"{room}/pipe", room, "/dev/null", f"{room}/ledger"):
+            for words in (["audit"], ["info"], ["report"]):
+                looked = subprocess.run([PROGRAM, *words, "--ledger", odd, "--snapshot"], capture_output=True, text=True, check=False,
+                                        timeout=PATIENCE)
+                if (looked.returncode, looked.stdout) != (3, "ledger store\n"):
+                    raise Failed(f"{words[0]} of {odd}: {looked.stdout}{looked.stderr}")
+            copied = subprocess.run([PROGRAM, "copy", "--ledger", odd, "--to", f"{room}/copy"], capture_output=True, text=True,
+                                    check=False, timeout=PATIENCE)
+            if copied.stdout != "ledger store\n" or [it for it in os.listdir(room) if it.startswith("copy")]:
+                raise Failed(f"a copy of {odd}: {copied.stdout}{copied.stderr}{os.listdir(room)}")
+
+
 def files_of(folder):
     """Returns the names, the bytes and the times of the files of a folder."""
     return sorted((it.name, it.read_bytes(), it.stat().st_mtime_ns) for it in folder.iterdir())
@@ -135,6 +157,7 @@ def run(folder):
             drawing.join()
         if drawing.failure:
             raise drawing.failure
+        refuse_odd_files(ledger)
         before = files_of(folder)
         report(ledger, drawing)
         audit(ledger, drawing)
