@@ -18,6 +18,7 @@ import struct
 import sys
 import tempfile
 import time
+import zlib
 from collections import Counter
 from dataclasses import dataclass
 from pathlib import Path
@@ -33,7 +34,8 @@ from test_s10client import DAY, Networks, Server, run_and_kill, s10  # noqa: E40
 CUSTOMER, FIRST, LAST = 7, 1000, 999999
 SERVICES = ("RA", "RB")
 MEASURED = 7  # draws without a kill at the start, whose median says when to kill
-NOTES = re.compile(r'\{"customer": (\d+), "next": (\d+), "last": (\d+), "request": (null|"((?:[0-9a-f]{2})+)")\}\n')
+NOTES = re.compile(r'(\{"customer": (\d+), "next": (\d+), "last": (\d+), "request": (?:null|"((?:[0-9a-f]{2})+)"))'
+                   r', "check": "([0-9a-f]{8})"\}\n')
 
 
 class Failed(Exception):
@@ -55,8 +57,9 @@ class Notes(NamedTuple):
     def read(cls, path):
         text = Path(path).read_text(encoding="ascii")
         found = NOTES.fullmatch(text)
-        holds("the file is no notes", found and (int(found[1]), int(found[3])) == (CUSTOMER, LAST), repr(text))
-        return cls(int(found[2]), found[5] and bytes.fromhex(found[5]))
+        holds("the file is no notes", found and (int(found[2]), int(found[4])) == (CUSTOMER, LAST), repr(text))
+        holds("the check value", zlib.crc32(found[1].encode()) == int(found[6], 16), repr(text))
+        return cls(int(found[3]), found[5] and bytes.fromhex(found[5]))
 
 
 class Draw(NamedTuple):

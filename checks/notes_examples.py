@@ -109,7 +109,7 @@ def try_example(example, folder, server, seed):
         drawn = sum(found, [])
         holds("each run prints as many", len(set(map(len, found))) == 1 and drawn, example.name, found)
         holds("an identifier was printed twice", len(set(drawn)) == len(drawn), example.name, found)
-        holds("the notes have a request", notes.read_text(encoding="ascii").endswith('"request": null}\n'), example.name)
+        holds("the notes have a request", '"request": null' in notes.read_text(encoding="ascii"), example.name)
         again = open_request(example, notes, proxy.address, len(found[0]))
         found = run(words, folder)
         holds("a reply was lost", found[: len(again)] == again, example.name, found, again)

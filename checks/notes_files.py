@@ -4,6 +4,8 @@
 Two names: by a symbolic link each client must use the file that it names. No identifier is drawn twice, and a client that has the
 notes open keeps the others out by either name, also while it waits for a reply. With a hard link each client must refuse the notes,
 and leave them as they were.
+The check value: each digit of a notes file, changed to each other one, is refused, and the file stays. Notes of earlier versions,
+which have none, are used and get one.
 Odd files: a pipe, a device, a folder or a symbolic link at the path of the notes, of `.new` or of `.lock` is refused at once.
 Modes: notes have the mode of those that they replace, and as root the owner; new ones are for their owner alone.
 
@@ -18,6 +20,7 @@ import sys
 import tempfile
 import threading
 import time
+import zlib
 from collections import Counter
 from pathlib import Path
 
@@ -26,6 +29,7 @@ PROGRAM = os.path.abspath(sys.argv[1] if len(sys.argv) > 1 else ROOT / "crates/s
 DRAW = os.path.abspath(sys.argv[2]) if len(sys.argv) > 2 else None
 os.environ["S10"] = PROGRAM
 sys.path.insert(0, str(ROOT / "contrib/python"))
+from s10client import Client, GaveUp  # noqa: E402
 from test_s10client import Server, run_and_kill, s10  # noqa: E402
 
 PYTHON = """
@@ -264,6 +268,71 @@ def try_modes(client, folder, address, numbers):
         holds(f"{client} did not change the notes", Path(path).read_bytes() != text, text)
 
 
+def open_request(path):
+    """Leaves a request open in notes, as a run that got no reply."""
+    with socket.socket(socket.AF_INET, socket.SOCK_DGRAM) as silent:
+        silent.bind(("127.0.0.1", 0))
+        with Client.open(path, silent.getsockname(), tries=1, wait=0.01) as client:
+            try:
+                client.draw("RA", "GB")
+            except GaveUp:
+                return
+    raise Failed("a silent server replied")
+
+
+def is_changed_refused(client, path, address):
+    """Returns whether a client refuses the notes at once, as no notes. `s10` asks their open request again."""
+    if client == "python":
+        try:
+            Client.open(path, address).close()
+        except ValueError:
+            return True
+        return False
+    words = [PROGRAM, "again", "--to", "{}:{}".format(*address), "--notes", path] if client == "s10" else words_of(client, path, address)
+    done = subprocess.run(words, stdin=subprocess.DEVNULL, capture_output=True, text=True, check=False, timeout=60)
+    said = {"s10": ("notes damaged\n", ""), "c": ("", "s10_draw: no notes\n")}[client]
+    return (done.stdout, done.stderr) == said and done.returncode == 3
+
+
+def changes_of(text):
+    """Yields each text in which one digit of a number, of the datagram or of the check value is another digit."""
+    for value in re.finditer(r'(?<=: )\d+|(?<=: ")[0-9a-f]+', text):
+        digits = "0123456789abcdef" if text[value.start() - 1] == '"' else "0123456789"
+        for at in range(*value.span()):
+            for digit in digits.replace(text[at], ""):
+                yield text[:at] + digit + text[at + 1:]
+
+
+def try_changed(client, folder, address, numbers):
+    """Changes each digit of notes with an open request. Returns the number of changes."""
+    folder = folder_of(folder, f"changed-{client}")
+    path = new_notes(folder, numbers)
+    open_request(path)
+    text, count = Path(path).read_text(encoding="ascii"), 0
+    for changed in changes_of(text):
+        Path(path).write_text(changed, encoding="ascii")
+        holds(f"{client} used changed notes", is_changed_refused(client, path, address), changed)
+        holds(f"{client} changed notes that it refuses", Path(path).read_text(encoding="ascii") == changed, changed)
+        count += 1
+    holds("few changes", count > 500, count)
+    Path(path).write_text(text, encoding="ascii")
+    drawn, printed, _ = draw(client, path, address)
+    holds(f"{client} does not know the right notes", drawn or re.search("refused unanswered|has no reply yet", printed), printed)
+    return count
+
+
+def try_older(client, folder, address, numbers):
+    """Draws by notes without a check value. The notes have a right one afterwards."""
+    path = Path(new_notes(folder_of(folder, f"older-{client}"), numbers))
+    members = re.fullmatch(r'(.*), "check": "[0-9a-f]{8}"\}\n', path.read_text(encoding="ascii"))[1]
+    path.write_text(members + "}\n", encoding="ascii")
+    drawn, printed, _ = draw(client, str(path), address)
+    holds(f"{client} drew nothing by older notes", len(drawn) == 1, printed)
+    text = path.read_text(encoding="ascii")
+    found = re.fullmatch(r'(.*), "check": "([0-9a-f]{8})"\}\n', text)
+    holds(f"{client} wrote a wrong check value or none", found and zlib.crc32(found[1].encode()) == int(found[2], 16), text)
+
+
 def make_and_kill(path, kill_after=None):
     """Creates notes, and kills the program after some seconds. Returns the text of the file, or None, and the status."""
     words = [PROGRAM, "notes", "--file", path, "--customer", "7", "--first", "1", "--last", "9"]
@@ -284,7 +353,7 @@ def try_killed_making(folder):
     print(f"`notes`: {dict(made)}")
 
 
-NEW = '{"customer": 7, "next": 1, "last": 9, "request": null}\n'
+NEW = '{"customer": 7, "next": 1, "last": 9, "request": null, "check": "3bd6ab45"}\n'
 
 
 def main():
@@ -302,6 +371,9 @@ def main():
                 try_hard_link(client, folder, server.address, numbers)
                 try_odd_files(client, folder, server.address, numbers)
                 try_modes(client, folder, server.address, numbers)
+                try_older(client, folder, server.address, numbers)
+                changes = try_changed(client, folder, server.address, numbers)
+                print(f"{client}: {changes} changes of one digit are refused")
             try_held(folder, server.address, numbers, clients)
             try_waiting(folder, numbers)
             try_killed_making(folder)

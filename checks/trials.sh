@@ -378,8 +378,8 @@ address=127.0.0.1:0
 unanswered 3 'link send' "cannot ask $address: Invalid argument (os error 22)"
 address=$silent
 
-# Notes that are new, taken, missing, without an open request, with one while no server is at the address, with a hard link, and
-# damaged.
+# Notes that are new, taken, missing, without an open request, with one while no server is at the address, without a check value, with
+# a hard link, and damaged.
 group notes
 notes() { # STATUS LINE CHANGES FILE
     tries "$1" "$2" '' "$3" notes --file "$4" --customer 7 --first 1 --last 9
@@ -387,7 +387,7 @@ notes() { # STATUS LINE CHANGES FILE
 again() { # STATUS LINE CHANGES FILE
     tries "$1" "$2" '' "$3" again --to "$address" --notes "$4" --tries 1
 }
-notes 0 created '+printer 55,+printer.lock 0' printer
+notes 0 created '+printer 76,+printer.lock 0' printer
 notes 3 'notes taken' '' printer
 notes 3 'notes store' '' missing/printer
 again 3 'notes missing' '' missing
@@ -397,7 +397,7 @@ ask_by_notes() { # STATUS LINE CHANGES FILE
     tries "$1" "$2" '' "$3" draw --to "$address" --notes "$4" --service RA --country GB --tries 1
 }
 ask_by_notes 3 'notes missing' '' missing
-ask_by_notes 3 gave-up '~printer 85' printer
+ask_by_notes 3 gave-up '~printer 106' printer
 ask_by_notes 1 'refused unanswered' '' printer
 echo '{"customer": 7, "next": 2, "last": 9, "request": "53310102000000070000000152414742"}' >printer
 again 3 gave-up '' printer
@@ -412,6 +412,9 @@ notes 3 'notes taken' '' other
 rm other
 echo '{}' >printer
 again 3 'notes damaged' '' printer
+echo '{"customer": 7, "next": 2, "last": 9, "request": "53310102000000070000000152414742", "check": "0b8002f7"}' >printer
+again 3 'notes damaged' '' printer
+ask_by_notes 3 'notes damaged' '' printer
 
 # The input of `replay` is a folder.
 group inputs

@@ -80,8 +80,19 @@ static int sync_folder(const char *path) {
     return failed;
 }
 
-/* The notes of a client as text. */
-static size_t notes_of(const struct s10_client *client, char text[MAX_NOTES]) {
+/* The check value of a text: CRC-32, as IEEE 802.3 and zlib have it. */
+static uint32_t check_value(const char *text, size_t len) {
+    uint32_t remainder = UINT32_MAX;
+    for (size_t i = 0; i < len; i++) {
+        remainder ^= (uint8_t)text[i];
+        for (int bit = 0; bit < 8; bit++)
+            remainder = remainder & 1 ? remainder >> 1 ^ 0xEDB88320 : remainder >> 1;
+    }
+    return ~remainder;
+}
+
+/* The members of the notes of a client as text, without the end of the line. */
+static size_t members_of(const struct s10_client *client, char text[MAX_NOTES]) {
     char request[2 * S10_MAX_REQUEST + 3] = "null";
     const struct s10_frame *pending = &client->pending;
     if (pending->len > 0) {
@@ -92,8 +103,24 @@ static size_t notes_of(const struct s10_client *client, char text[MAX_NOTES]) {
     }
     return (size_t)snprintf(text, MAX_NOTES,
                             "{\"customer\": %" PRIu32 ", \"next\": %" PRIu64 ", \"last\": %" PRIu32
-                            ", \"request\": %s}\n",
+                            ", \"request\": %s",
                             client->customer, client->first + client->taken, client->last, request);
+}
+
+/* The notes of a client as text: a line that ends with the check value of all that is before it. */
+static size_t notes_of(const struct s10_client *client, char text[MAX_NOTES]) {
+    size_t len = members_of(client, text);
+    return len + (size_t)snprintf(text + len, MAX_NOTES - len, ", \"check\": \"%08" PRIx32 "\"}\n",
+                                  check_value(text, len));
+}
+
+/* Whether a text is that of the notes, or the one of earlier versions, which has no check value. */
+static int is_text_of(const struct s10_client *client, const char *text, size_t len) {
+    char right[MAX_NOTES];
+    if (len == notes_of(client, right) && memcmp(text, right, len) == 0) return 1;
+    size_t members = members_of(client, right);
+    return len == members + 2 && memcmp(text, right, members) == 0 &&
+           memcmp(text + members, "}\n", 2) == 0;
 }
 
 /* Creates the file `.new` beside and locks it, since it will be the notes. Removes that of a client
@@ -152,7 +179,24 @@ static ssize_t read_text(const char *path, int notes, char text[MAX_NOTES]) {
     return read(notes, text, MAX_NOTES - 1);
 }
 
-/* Reads the notes: the request is pending if there is one, and the next number follows it. */
+/* Reads the datagram of the request of the notes, if there is one: it is pending. */
+static int read_pending(const char *text, struct s10_client *client, uint64_t next) {
+    struct s10_request asked;
+    unsigned byte;
+    if (strncmp(text, "null", 4) == 0) return 1;
+    if (*text++ != '"') return 0;
+    for (; *text != '"'; text += 2) {
+        if (client->pending.len == S10_MAX_REQUEST || sscanf(text, "%2x", &byte) != 1 ||
+            text[1] == '"')
+            return 0;
+        client->pending.bytes[client->pending.len++] = (uint8_t)byte;
+    }
+    return s10_decode(client->pending.bytes, client->pending.len, &asked).code == S10_OK &&
+           asked.customer == client->customer && asked.number + UINT64_C(1) == next;
+}
+
+/* Reads the notes: the request is pending if there is one, and the next number follows it. The text
+   must be the one that is written for what was read. */
 static int read_notes(const char *path, int notes, struct s10_client *client) {
     char text[MAX_NOTES];
     ssize_t len = read_text(path, notes, text);
@@ -171,19 +215,8 @@ static int read_notes(const char *path, int notes, struct s10_client *client) {
     client->last = (uint32_t)last;
     client->first = (uint32_t)(next > last ? last : next);
     client->taken = next - client->first;
-
-    request += strlen("\"request\": ");
-    if (strncmp(request, "null", 4) == 0) return 0;
-    struct s10_request asked;
-    unsigned byte;
-    for (request++; *request != '"'; request += 2) {
-        if (client->pending.len == S10_MAX_REQUEST || sscanf(request, "%2x", &byte) != 1 ||
-            request[1] == '"')
-            return S10_BAD_NOTES;
-        client->pending.bytes[client->pending.len++] = (uint8_t)byte;
-    }
-    if (s10_decode(client->pending.bytes, client->pending.len, &asked).code != S10_OK ||
-        asked.customer != customer || asked.number + UINT64_C(1) != next)
+    if (!read_pending(request + strlen("\"request\": "), client, next) ||
+        !is_text_of(client, text, (size_t)len))
         return S10_BAD_NOTES;
     return 0;
 }

@@ -19,7 +19,7 @@ extern "C" {
 enum s10_session_code {
     S10_GAVE_UP = 61,         /* no reply came; the request stays pending: s10_session_again */
     S10_SYSTEM = 62,          /* a file or the socket failed: errno says why */
-    S10_BAD_NOTES = 63,       /* the file holds no notes */
+    S10_BAD_NOTES = 63,       /* the file holds no notes, or was changed: its check value says so */
     S10_BAD_ADDRESS = 64,     /* not an IPv4 address */
     S10_LINKED_NOTES = 65     /* the file has another name too, a hard link */
 };

@@ -35,6 +35,7 @@ import socket
 import stat
 import struct
 import time
+import zlib
 from typing import NamedTuple
 
 try:
@@ -503,7 +504,7 @@ def make_notes(path, customer, first=1, last=LAST_NUMBER):
     _require_free(path)
     with _lock_beside(path):
         _require_free(path)
-        _write_notes(path, {"customer": customer, "next": first, "last": last, "request": None}).close()
+        _write_notes(path, _members(customer, first, last, None)).close()
 
 
 class _Notes:
@@ -546,8 +547,13 @@ class _Notes:
                 raise ValueError("the next number is above the last")
             if self.request is not None and _code.decode(self.request)[:2] != (self.customer, self.next - 1):
                 raise ValueError("the request has another customer or number")
+            if data not in (_text_of(self._noted()), _older_text_of(self._noted())):
+                raise ValueError("the check value or the form of the text is wrong")
         except (ValueError, TypeError, KeyError) as fault:
             raise ValueError(f"{self._path} holds no notes: {fault}") from fault
+
+    def _noted(self):
+        return _members(self.customer, self.next, self.last, self.request)
 
     def write_down(self, request):
         """Replaces the notes by those in which the request is open."""
@@ -560,8 +566,7 @@ class _Notes:
 
     def _replace(self, number, request):
         self._check_name()
-        file = _write_notes(self._path, {"customer": self.customer, "next": number, "last": self.last,
-                                         "request": None if request is None else request.hex()}, self._file)
+        file = _write_notes(self._path, _members(self.customer, number, self.last, request), self._file)
         self._file.close()
         self._file, self.next, self.request = file, number, request
 
@@ -600,6 +605,21 @@ def _lock_beside(path):
     return _locked(os.open(path, os.O_RDWR | os.O_APPEND | os.O_CREAT, 0o666))
 
 
+def _members(customer, number, last, request):
+    return {"customer": customer, "next": number, "last": last, "request": None if request is None else request.hex()}
+
+
+# Returns the text of notes: their members, and the check value of all that is before it.
+def _text_of(noted):
+    members = json.dumps(noted)[:-1].encode("ascii")
+    return members + b', "check": "%08x"}\n' % zlib.crc32(members)
+
+
+# Returns the text that earlier versions wrote: it has no check value.
+def _older_text_of(noted):
+    return json.dumps(noted).encode("ascii") + b"\n"
+
+
 # Writes notes beside their file and renames them onto it, so that they are whole at any moment. They are locked and on
 # disk at the end. They have the mode of those that they replace, and for root the owner. Returns their file.
 def _write_notes(path, noted, replaced=None):
@@ -615,7 +635,7 @@ def _write_notes(path, noted, replaced=None):
             with contextlib.suppress(PermissionError):
                 os.fchown(file.fileno(), found.st_uid, found.st_gid)
             os.fchmod(file.fileno(), stat.S_IMODE(found.st_mode))
-        text = (json.dumps(noted) + "\n").encode("ascii")
+        text = _text_of(noted)
         while text:
             text = text[file.write(text):]
         os.fsync(file.fileno())

@@ -236,7 +236,7 @@ class Notes(unittest.TestCase):
             with self.open(one) as client, self.assertRaises(GaveUp):
                 client.draw("RA", "GB")
             self.assertEqual(self.text(), '{"customer": 7, "next": 6, "last": 6, "request": '
-                                          '"53310102000000070000000552414742"}\n')
+                                          '"53310102000000070000000552414742", "check": "fac155bc"}\n')
             with self.open(other) as client:
                 self.assertEqual((client.is_open, client.number_of_request, client.number), (True, 5, 6))
                 with self.assertRaises(Unanswered):
@@ -257,7 +257,7 @@ class Notes(unittest.TestCase):
         right = '{"customer": 7, "next": 6, "last": 9, "request": "53310102000000070000000552414742"}\n'
         wrong = [right.replace(*it) for it in (('"next": 6', '"next": 7'), ('"customer": 7', '"customer": 8'),
                                                ("5241", "7241"), ("4742", "47"), ("53310102", "53310202"),
-                                               ('"last": 9', '"last": 4'))]
+                                               ('"last": 9', '"last": 4'), ("}", ', "check": "7c2ab308"}'))]
         self.assertNotIn(right, wrong)
         for code in BOTH:
             Path(self.path).write_text(right, encoding="ascii")

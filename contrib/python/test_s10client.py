@@ -526,7 +526,7 @@ class Notes(ServedTest):
         self.assertEqual(s10(*make), "created\n")
         self.assertEqual(s10(*make), "notes taken\n")
         with open(self.path, encoding="ascii") as file:
-            self.assertEqual(file.read(), '{"customer": 7, "next": 11, "last": 13, "request": null}\n')
+            self.assertEqual(file.read(), '{"customer": 7, "next": 11, "last": 13, "request": null, "check": "e199d768"}\n')
         self.assertEqual(self.again(), "refused answered\n")
         with self.open() as client:
             self.assertEqual(client.draw("RA", "GB").identifier, "RA000000005GB")

@@ -1,6 +1,9 @@
 pub mod Written
 pub mod Numerals
+pub mod Quotes
+pub mod Ends
 pub mod Digits
+pub mod Changed
 pub mod Lived
 pub mod Replaced
 pub mod Refused

@@ -1,4 +1,4 @@
--- Decimal numbers without leading zeros, alone and before a separator.
+-- Decimal numbers without leading zeros, and what is before a separator.
 use Rattle.std.proofs.Common.{◌≡◌, ◌≢◌, ℕ, zero, suc, ◌+◌, ◌-◌, ◌^◌, ◌<◌, ◌≤◌, Bool, true, false}
 use Rattle.std.proofs.Common.{cond, eqb, List, ◌∷◌, ◌++◌, length, get_or, take, drop, Some}
 use Rattle.std.proofs.Common.{None, Result, Ok, Err, refl, sym, ap, ◌∙◌, arith, subst}
@@ -51,25 +51,31 @@ pub number_parsed : {E : Type 0} → (bs : List ℕ) (r : Result ℕ E) → Pars
     → (n : ℕ) → n < 2 ^ 64 → bs ≡ decimal n → result_ok r ≡ Some n
 number_parsed bs r parses n h is = ap result_ok (parse-decimal 64 n bs r h h is parses)
 
--- The index of the first separator after a number.
-pub position_after : (n : ℕ) (rest : List ℕ) (sep : ℕ) → n < 2 ^ 64 → ¬ (IsAsciiDigit sep)
-    → position (λ b. b == sep) (decimal n ++ sep ∷ rest) ≡ Some (length (decimal n))
-position_after n rest sep h other =
-    let ds : List ℕ = decimal n in
-    let whole : List ℕ = ds ++ sep ∷ rest in
-    let all : AllDigits 10 ds = (decimal_is_IsNumeral n h).0.1 in
-    let len : length whole ≡ length ds + suc (length rest) = length-append ds (sep ∷ rest) in
-    let before : (k : ℕ) → k < length ds → eqb (get_or whole k 0) sep ≡ false = λ k low.
-    false_from_ne_true _
-    (λ same. other (subst IsAsciiDigit (eqb-true _ _ same)
-    (subst IsAsciiDigit (sym (get_or_append_left ds (sep ∷ rest) 0 k low))
-    (digit_at ds k all low)))) in
-    let here : length ds < length whole → eqb (get_or whole (length ds) 0) sep ≡ true =
-    λ _. eq-eqb _ _ (get_or-append_seam ds sep rest 0) in
-    let is : position_or_len (λ b. b == sep) whole ≡ length ds =
-    position_or_len_is (λ b. b == sep) whole (length ds) 0 (omega (arith, len)) before here in
-    let low : nat_lt (length ds) (length whole) ≡ true =
-    lt-ltb (length ds) (length whole) (omega (arith, len)) in
+-- The text has no such byte.
+abbrev pub Lacks : List ℕ → ℕ → Type 0
+Lacks xs sep = (k : ℕ) → k < length xs → get_or xs k 0 ≢ sep
+
+-- A number has digits alone.
+pub number_lacks : (n sep : ℕ) → n < 2 ^ 64 → ¬ (IsAsciiDigit sep) → Lacks (decimal n) sep
+number_lacks n sep h other =
+    let all : AllDigits 10 (decimal n) = (decimal_is_IsNumeral n h).0.1 in
+    λ k low same. other (subst IsAsciiDigit same (digit_at (decimal n) k all low))
+
+-- The index of the first separator after a text without one.
+pub position_after : (xs rest : List ℕ) (sep : ℕ) → Lacks xs sep
+    → position (λ b. b == sep) (xs ++ sep ∷ rest) ≡ Some (length xs)
+position_after xs rest sep lacks =
+    let whole : List ℕ = xs ++ sep ∷ rest in
+    let len : length whole ≡ length xs + suc (length rest) = length-append xs (sep ∷ rest) in
+    let before : (k : ℕ) → k < length xs → eqb (get_or whole k 0) sep ≡ false = λ k low.
+    false_from_ne_true _ (λ same. lacks k low
+    (sym (get_or_append_left xs (sep ∷ rest) 0 k low) ∙ eqb-true _ _ same)) in
+    let here : length xs < length whole → eqb (get_or whole (length xs) 0) sep ≡ true =
+    λ _. eq-eqb _ _ (get_or-append_seam xs sep rest 0) in
+    let is : position_or_len (λ b. b == sep) whole ≡ length xs =
+    position_or_len_is (λ b. b == sep) whole (length xs) 0 (omega (arith, len)) before here in
+    let low : nat_lt (length xs) (length whole) ≡ true =
+    lt-ltb (length xs) (length whole) (omega (arith, len)) in
     rw (is, low) refl
 
 -- The index that was found is within the text.
@@ -88,23 +94,22 @@ within_text sep xs at found = found_at (nat_lt (position_or_len p xs) (length xs
         subst (λ (k : ℕ). k < length xs) place short
     found_at false low is = absurd cc
 
--- A number before a separator is the text up to its index, and the separator follows.
-pub cut_after : (xs : List ℕ) (at n : ℕ) (rest : List ℕ) (sep : ℕ) → n < 2 ^ 64
-    → ¬ (IsAsciiDigit sep) → xs ≡ decimal n ++ sep ∷ rest
-    → Some at ≡ position (λ b. b == sep) xs → (take at xs ≡ decimal n) × (drop at xs ≡ sep ∷ rest)
-cut_after xs at n rest sep h other is found =
-    let ds : List ℕ = decimal n in
-    let place : at ≡ length ds = same_Some at (length ds) (found ∙ ap (position (λ b. b == sep)) is
-    ∙ position_after n rest sep h other) in
-    let front : take at xs ≡ ds = rw (place, is) (take-append_seam ds (sep ∷ rest)) in
-    (front, rw (place, is) (drop-append_seam ds (sep ∷ rest)))
+-- What is before a separator is the text up to its index, and the separator follows.
+pub cut_after : (xs : List ℕ) (at : ℕ) (front rest : List ℕ) (sep : ℕ) → Lacks front sep
+    → xs ≡ front ++ sep ∷ rest → Some at ≡ position (λ b. b == sep) xs
+    → (take at xs ≡ front) × (drop at xs ≡ sep ∷ rest)
+cut_after xs at front rest sep lacks is found =
+    let place : at ≡ length front = same_Some at (length front)
+    (found ∙ ap (position (λ b. b == sep)) is ∙ position_after front rest sep lacks) in (
+      rw (place, is) (take-append_seam front (sep ∷ rest)),
+      rw (place, is) (drop-append_seam front (sep ∷ rest)),
+    )
 
 -- A text with a separator has an index of it.
-pub place_after : (xs : List ℕ) (n : ℕ) (rest : List ℕ) (sep : ℕ) → n < 2 ^ 64
-    → ¬ (IsAsciiDigit sep) → xs ≡ decimal n ++ sep ∷ rest
+pub place_after : (xs front rest : List ℕ) (sep : ℕ) → Lacks front sep → xs ≡ front ++ sep ∷ rest
     → None ≡ position (λ b. b == sep) xs → ⊥
-place_after xs n rest sep h other is found = none-some _ (found ∙ ap (position (λ b. b == sep)) is
-    ∙ position_after n rest sep h other)
+place_after xs front rest sep lacks is found = none-some _
+    (found ∙ ap (position (λ b. b == sep)) is ∙ position_after front rest sep lacks)
 
 -- A property of a result holds of the value in it.
 pub taken : {A E : Type 0} → (r : Result A E) (P : A → Type 0) (Q : E → Type 0) (x : A)

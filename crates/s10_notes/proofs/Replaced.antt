@@ -58,9 +58,9 @@ pub spells_only : (start text : List ℕ) (n : NotesState) → start ≡ [] → 
     → SpellsNotes (notes_text n) n
     → ((a b : NotesState) → SpellsNotes text a → SpellsNotes text b → a ≡ b) → SpellsOnly text n
 spells_only start text n empty is spells one =
-    let own : SpellsNotes text n = subst (λ t. SpellsNotes t n)
-    (sym (is ∙ ap (λ t. t ++ notes_text n) empty)) spells in
-    record { spells = own; only = λ m other. one m n other own }
+    let same : text ≡ notes_text n = is ∙ ap (λ t. t ++ notes_text n) empty in
+    let own : SpellsNotes text n = subst (λ t. SpellsNotes t n) (sym same) spells in
+    record { written = same; spells = own; only = λ m other. one m n other own }
 
 -- Calls that failed, of which some may have been made.
 pub failed : (r : Result (Unit {0}) NotesFault) (old new : FolderCalls) (n : NotesState) → IsErr r

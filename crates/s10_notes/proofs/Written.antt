@@ -15,3 +15,8 @@ pub same_written : {T E : Type 0} (u v : Option (List ℕ)) (a b : List ℕ) (r 
     → OnOk r (Appends u v a) → OnOk r (Appends u v b)
 same_written u v a b r e written = let P : List ℕ → Type 0 =
     λ text. OnOk r (Appends u v text) in subst P e written
+
+-- What holds, holds of a result.
+pub on_ok : {T E : Type 0} (P : Type 0) (r : Result T E) → P → OnOk r P
+on_ok P (Ok done) holds = holds
+on_ok P (Err fault) holds = tt

@@ -1,4 +1,5 @@
 pub mod Notes
+pub mod CheckValue
 pub mod Text
 pub mod Notebook
 pub mod Lives

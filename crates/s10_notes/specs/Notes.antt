@@ -13,6 +13,11 @@ pub record NotesState : Type 0 where
   pub last : ℕ
   pub request : Option Request
 
+-- The notes with these members.
+abbrev pub notes_of : ℕ → ℕ → ℕ → Option Request → NotesState
+notes_of customer next lst request =
+    record { customer = customer; next = next; last = lst; request = request }
+
 -- The request is of the customer, and has the number before the next one.
 abbrev pub IsLatest : NotesState → Request → Type 0
 IsLatest n q = (q.customer ≡ n.customer) × (q.number + 1 ≡ n.next)

@@ -2,6 +2,7 @@
 //! read too.
 #![tactic(auto)]
 
+mod check;
 mod folder;
 mod folder_call;
 mod folder_refusal;
@@ -16,11 +17,12 @@ mod reading;
 mod take_fault;
 mod writing;
 
+pub use check::check_value;
 pub use folder::Folder;
 pub use folder_call::{FolderCall, Text};
 pub use folder_refusal::FolderRefusal;
 pub use host_folder::HostFolder;
-pub use laws::numbers_are_used_once;
+pub use laws::{numbers_are_used_once, one_changed_byte_is_seen};
 pub use names::Names;
 pub use notebook::Notebook;
 pub use notes::Notes;

@@ -5,30 +5,79 @@ ghost use Rattle.std.specs.Prelude.{◌==◌, IsTrue, Option, codes, decimal, po
 ghost use Rattle.hex.specs.Hex.{encode_lower};
 ghost use Rattle.s10_wire.specs.declared.request.Request.{Request};
 ghost use Rattle.s10_wire.specs.Datagrams.{Asks, IsRequest, datagram};
-ghost use Rattle.s10_notes.specs.Notes.{NotesState};
-ghost use Rattle.s10_notes.specs.Text.{SpellsNotes, request_text};
+ghost use Rattle.s10_notes.specs.Notes.{NotesState, notes_of};
+ghost use Rattle.s10_notes.specs.Text.{AreInRange, IsEndOf, SpellsNotes, check_end, members_text};
+ghost use Rattle.s10_notes.specs.Text.{request_text};
 
+use crate::check::check_digits;
 use crate::notes::Notes;
 use s10_wire::{Request, datagrams_are_short, decode_request, encode_request};
 use std::str;
 
 /// Reads notes, or returns `None` if the text is not that of notes.
 ///
-/// Notes have one text: `write_notes` writes it. Other spaces, members in another order and capital
-/// digits are not read.
+/// Notes have one text with a check value: `write_notes` writes it. That of earlier versions, which has
+/// none, is read too. Other spaces, members in another order and capital digits are not read.
 pub fn read_notes(text: &[u8]) -> Option<Notes>
     // Notes that are read are those that the text spells.
     ensures spelled { IfSome result (SpellsNotes text.now) }
     // A text that spells notes is read as these.
     ensures read { (n : NotesState) → SpellsNotes text.now n → result ≡ Some n }
 {
+    match read_members(text) {
+        Some((customer, next, last, request, end)) => {
+            if is_end_of(&text[..text.len() - end.len()], end) {
+                Notes::restore(customer, next, last, request)
+            } else {
+                None
+            }
+        }
+        None => None,
+    }
+}
+
+// Reads the customer, the next and the last number and the open request, and returns them with the
+// text after them.
+fn read_members<'a>(text: &'a [u8]) -> Option<(u64, u64, u64, Option<Request>, &'a [u8])>
+    ensures spelled { IfSome result (λ read. IfSome read.3 IsRequest
+        × (text.now ≡ members_text (notes_of read.0 read.1 read.2 read.3) ++ read.4.now)) }
+    ensures read { (n : NotesState) (rest : List ℕ) → AreInRange n → text.now ≡ members_text n ++ rest
+        → IsSomeAnd result (λ read. (notes_of read.0 read.1 read.2 read.3 ≡ n)
+        × (read.4.now ≡ rest)) }
+{
     let (customer, rest) = number_after(b"{\"customer\": ", text)?;
     let (next, rest) = number_after(b", \"next\": ", rest)?;
     let (last, rest) = number_after(b", \"last\": ", rest)?;
     let rest = after(b", \"request\": ", rest)?;
     match read_open_request(rest) {
-        Some(request) => Notes::restore(customer, next, last, request),
+        Some((request, end)) => Some((customer, next, last, request, end)),
         None => None,
+    }
+}
+
+// Returns whether the line of these members may end so: with their check value, or without any.
+fn is_end_of(members: &[u8], end: &[u8]) -> bool
+    ensures { IsTrue result ↔ IsEndOf members.now end.now }
+{
+    is_check_end(members, end) || is_same(end, b"}\n")
+}
+
+fn is_check_end(members: &[u8], end: &[u8]) -> bool
+    ensures { IsTrue result ↔ end.now ≡ check_end members.now }
+{
+    match after(b", \"check\": \"", end) {
+        Some(rest) => is_digits_end(&check_digits(members), rest),
+        None => false,
+    }
+}
+
+// Returns whether the text is these digits and the end of the line.
+fn is_digits_end(digits: &[u8], text: &[u8]) -> bool
+    ensures { IsTrue result ↔ text.now ≡ digits.now ++ codes "\"}\n" }
+{
+    match after(digits, text) {
+        Some(rest) => is_same(rest, b"\"}\n"),
+        None => false,
     }
 }
 
@@ -75,25 +124,42 @@ fn read_number(digits: &[u8]) -> Option<u64>
     str::from_utf8(digits).ok()?.parse().ok()
 }
 
-// Reads the rest of the text from the open request on.
-fn read_open_request(text: &[u8]) -> Option<Option<Request>>
-    ensures spelled { IfSome result (λ found. IfSome found IsRequest
-        × (text.now ≡ request_text found ++ codes "}\n")) }
-    ensures read { (found : Option Request) → IfSome found IsRequest
-        → text.now ≡ request_text found ++ codes "}\n" → result ≡ Some found }
+// Reads the open request, and returns it with the text after it.
+fn read_open_request<'a>(text: &'a [u8]) -> Option<(Option<Request>, &'a [u8])>
+    ensures spelled { IfSome result (λ read. IfSome read.0 IsRequest
+        × (text.now ≡ request_text read.0 ++ read.1.now)) }
+    ensures read { (q : Option Request) (rest : List ℕ) → IfSome q IsRequest
+        → text.now ≡ request_text q ++ rest
+        → IsSomeAnd result (λ read. (read.0 ≡ q) × (read.1.now ≡ rest)) }
 {
-    if is_same(text, b"null}\n") {
-        return Some(None);
+    match after(b"null", text) {
+        Some(rest) => Some((None, rest)),
+        None => read_quoted(text),
     }
+}
+
+// Reads the digits of a request between quotes, and returns it with the text after them.
+fn read_quoted<'a>(text: &'a [u8]) -> Option<(Option<Request>, &'a [u8])>
+    ensures spelled { IfSome result (λ read. IfSome read.0 IsRequest
+        × (text.now ≡ request_text read.0 ++ read.1.now)) }
+    ensures read { (q : Request) (rest : List ℕ) → IsRequest q
+        → text.now ≡ request_text (Some q) ++ rest
+        → IsSomeAnd result (λ read. (read.0 ≡ Some q) × (read.1.now ≡ rest)) }
+{
     let text = after(b"\"", text)?;
-    let end = text.len().checked_sub(3)?;
-    if !is_same(&text[end..], b"\"}\n") {
-        return None;
-    }
-    match read_request(&text[..end]) {
-        Some(request) => Some(Some(request)),
+    let at = first_quote(text)?;
+    let rest = after(b"\"", &text[at..])?;
+    match read_request(&text[..at]) {
+        Some(request) => Some((Some(request), rest)),
         None => None,
     }
+}
+
+// Returns the index of the first quote.
+fn first_quote(text: &[u8]) -> Option<usize>
+    ensures { result ≡ position (λ byte. byte == 34) text.now }
+{
+    text.iter().position(|byte| *byte == b'"')
 }
 
 fn is_same(text: &[u8], other: &[u8]) -> bool

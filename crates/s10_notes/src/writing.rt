@@ -3,15 +3,18 @@
 ghost use Rattle.std.specs.Prelude.{◌++◌, IfSome, OnOk, codes, decimal};
 ghost use Rattle.std.specs.Io.KnownBytes.{Appends};
 ghost use Rattle.s10_wire.specs.Datagrams.{IsRequest};
-ghost use Rattle.s10_notes.specs.Text.{SpellsNotes, notes_text, request_text};
+ghost use Rattle.s10_notes.specs.Text.{AreInRange, SpellsNotes, check_end, members_text, notes_text};
+ghost use Rattle.s10_notes.specs.Text.{request_text};
 
+use crate::check::check_digits;
+use crate::folder_call::Text;
 use crate::notes::Notes;
 use itoa::Buffer;
 use s10_lines::{WriteFault, write_text};
 use s10_wire::{Request, encode_request};
 use std::io::Write;
 
-/// Writes the one text of the notes: a line with a JSON object.
+/// Writes the one text of the notes with their check value: a line with a JSON object.
 ///
 /// # Errors
 ///
@@ -22,12 +25,33 @@ pub fn write_notes<W: Write>(notes: &Notes, out: &mut W) -> Result<(), WriteFaul
     // The text is read as these notes again.
     ensures spelled { OnOk result (SpellsNotes (notes_text notes.now) notes.now) }
 {
+    let mut members = Text::new();
+    write_members(notes, &mut members)?;
+    write_text(members.as_slice(), out)?;
+    write_check_end(members.as_slice(), out)
+}
+
+// Writes the members, without the end of the line.
+fn write_members<W: Write>(notes: &Notes, out: &mut W) -> Result<(), WriteFault>
+    ensures written { OnOk result (Appends (W.contents out.old) (W.contents out.new)
+        (members_text notes.now)) }
+    ensures in_range { OnOk result (AreInRange notes.now) }
+{
     write_named(b"{\"customer\": ", notes.customer() as u64, out)?;
     write_named(b", \"next\": ", notes.next(), out)?;
     write_named(b", \"last\": ", notes.last() as u64, out)?;
     write_text(b", \"request\": ", out)?;
-    write_open_request(&notes.request(), out)?;
-    write_text(b"}\n", out)
+    write_open_request(&notes.request(), out)
+}
+
+// Writes the end of the line of these members, with their check value.
+fn write_check_end<W: Write>(members: &[u8], out: &mut W) -> Result<(), WriteFault>
+    ensures { OnOk result (Appends (W.contents out.old) (W.contents out.new)
+        (check_end members.now)) }
+{
+    write_text(b", \"check\": \"", out)?;
+    write_text(&check_digits(members), out)?;
+    write_text(b"\"}\n", out)
 }
 
 // Writes the name of a member, then its number.

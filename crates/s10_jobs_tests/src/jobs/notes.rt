@@ -22,14 +22,23 @@ const REPLY_UNRECORDED: &str =
 
 /// Customer 7's notes: before the first draw, while it is open, after its reply, and with no number
 /// left.
-const NEW: &str = "{\"customer\": 7, \"next\": 1, \"last\": 9, \"request\": null}\n";
+const NEW: &str =
+    "{\"customer\": 7, \"next\": 1, \"last\": 9, \"request\": null, \"check\": \"3bd6ab45\"}\n";
 
 const OPEN: &str =
-    "{\"customer\": 7, \"next\": 2, \"last\": 9, \"request\": \"53310102000000070000000152414742\"}\n";
+    "{\"customer\": 7, \"next\": 2, \"last\": 9, \"request\": \"53310102000000070000000152414742\", \"check\": \"0b8002f6\"}\n";
 
-const ANSWERED: &str = "{\"customer\": 7, \"next\": 2, \"last\": 9, \"request\": null}\n";
+const ANSWERED: &str =
+    "{\"customer\": 7, \"next\": 2, \"last\": 9, \"request\": null, \"check\": \"9edec029\"}\n";
 
-const SPENT: &str = "{\"customer\": 7, \"next\": 10, \"last\": 9, \"request\": null}\n";
+const SPENT: &str =
+    "{\"customer\": 7, \"next\": 10, \"last\": 9, \"request\": null, \"check\": \"e465db13\"}\n";
+
+/// The first of these as earlier versions wrote it, without a check value, and with a changed digit.
+const OLDER: &str = "{\"customer\": 7, \"next\": 1, \"last\": 9, \"request\": null}\n";
+
+const CHANGED: &str =
+    "{\"customer\": 8, \"next\": 1, \"last\": 9, \"request\": null, \"check\": \"3bd6ab45\"}\n";
 
 /// The calls of an opening.
 const OPENING: u32 = 3;
@@ -204,6 +213,11 @@ const CASES: &[Case] = &[
         kept: SPENT,
         ..ASKED
     },
+    // A draw by older notes.
+    Case {
+        notes: OLDER,
+        ..ASKED
+    },
     // The open request again, which is then recorded as answered, and no open request.
     Case {
         is_draw: false,
@@ -284,6 +298,7 @@ fn notes_are_opened_only_after_their_names_are_counted_and_synced(rt: HostRuntim
     assert!(rt; is_unopened(Names::One, NEW, 1, NotesFault::Store));
     assert!(rt; is_unopened(Names::One, NEW, 2, NotesFault::Store));
     assert!(rt; is_unopened(Names::One, "", OPENING, NotesFault::Damaged));
+    assert!(rt; is_unopened(Names::One, CHANGED, OPENING, NotesFault::Damaged));
     assert!(rt; is_unopened(Names::Zero, "", OPENING, NotesFault::Missing));
     assert!(rt; is_unopened(Names::More, NEW, OPENING, NotesFault::Linked));
 }
