@@ -389,13 +389,16 @@ def served(ledger, refusals=()):
         host, port = address.rsplit(":", 1)
         with socket.socket(socket.AF_INET, socket.SOCK_DGRAM) as link:
             link.connect((host, int(port)))
-            for datagram in (GRANT, draw(1), draw(2)):
-                link.send(bytes.fromhex(datagram))
-                link.settimeout(PATIENCE if not refusals else 0.5)
+            link.settimeout(0.5 if refusals else PATIENCE)
+            asked = (GRANT, draw(1), draw(2))
+            for datagram in asked:
                 try:
-                    replies[datagram] = link.recv(2048).hex()
+                    link.send(bytes.fromhex(datagram))
+                    reply = link.recv(2048).hex()
                 except (socket.timeout, ConnectionRefusedError):
-                    pass
+                    continue
+                # A late reply is that of an earlier request: it repeats its customer and number.
+                replies[next(it for it in asked if it[8:24] == reply[8:24])] = reply
     until.touch()
     return replies, server.end(PATIENCE)
 
