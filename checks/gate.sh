@@ -15,7 +15,7 @@ set -u -o pipefail
 # The checks that must run under CI. The others need a browser, tshark, or the right to mount a disk.
 GATE_MUST='front_door counts build_log texts edges completions pages killed_server killed_server_64 until killed_notes
     killed_copy days_ahead trials refused_program together snapshots shards sizes package library c_library draw notes_files
-    notes_examples file_size_limit synced refused_sockets'
+    notes_examples closed_streams file_size_limit synced refused_sockets'
 
 top=$(dirname "$(dirname "$(readlink -f "${BASH_SOURCE[0]}")")")
 room=$(mktemp -d) || exit
@@ -139,6 +139,7 @@ run_checks() {
     check build_log 600 'python3 make flock' python3 "$checks/build_log.py"
     check texts 300 'program python3' python3 "$contrib/write_texts.py" --check "$s10"
     check edges 600 'program python3' python3 "$checks/edges.py" "$s10"
+    check closed_streams 300 'program python3' python3 "$checks/closed_streams.py" "$s10"
     check file_size_limit 600 'program python3' python3 "$checks/file_size_limit.py" "$s10"
     check completions 600 'program python3' env S10="$s10" python3 "$contrib/test_completions.py"
     check ledger_page 600 'program python3' env S10="$s10" python3 "$contrib/test_ledger_page.py"

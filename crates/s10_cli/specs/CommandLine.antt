@@ -56,13 +56,14 @@ module _ (input rest old new : Option (List ℕ))
   IsSubcommandDone None = (answer ≡ None) × (new ≡ old)
   IsSubcommandDone (Some named) = IsDone named.0 named.1
 
--- Help or the version was printed, or a fault or lack of memory was reported.
+-- Help or the version was printed, or a fault or lack of memory was reported. The status of a fault
+-- does not depend on standard error.
 pub record IsFaultPrinted (kind : ErrorKind) (old new : Option (List ℕ))
     (done : Result JobStatus WriteFault) : Type 0 where
   pub memory : kind ≡ OutOfMemory → EndsWithLine old new done Failed (codes "memory\n")
   pub help : (kind ≡ DisplayHelp) ⊎ (kind ≡ DisplayVersion) → IfOk done (λ ended. ended ≡ Done)
   pub fault : kind ≢ OutOfMemory → kind ≢ DisplayHelp → kind ≢ DisplayVersion
-      → IfOk done (λ ended. ended ≡ CommandLine) × (new ≡ old)
+      → (done ≡ Ok CommandLine) × (new ≡ old)
 
 -- A parsed line ends as its subcommand did. If the subcommand is left to the program, it does not end,
 -- unless it asks for no job: then it is a fault of the command line.

@@ -168,7 +168,8 @@ fn run_named<I: Read, O: Write>(
     }
 }
 
-// Prints help, the version or a fault of the command line.
+// Prints help, the version or a fault of the command line. The result of a write to standard error is
+// ignored, so that the status says what was wrong also if that stream is closed.
 fn report_fault<R: Eprint, O: Write>(
     rt: &R,
     error: &Error,
@@ -182,9 +183,7 @@ fn report_fault<R: Eprint, O: Write>(
         return Ok(JobStatus::Failed);
     }
     if error.use_stderr() {
-        let Ok(()) = rt.eprint(error) else {
-            return Err(WriteFault);
-        };
+        let _ = rt.eprint(error);
         return Ok(JobStatus::CommandLine);
     }
     let Ok(()) = write!(output, "{error}") else {
