@@ -411,3 +411,54 @@ fn records_have_each_day_also_as_a_date(rt: HostRuntime) {
     let issues = book_after(&rt, "nine calls", NINE_CALLS);
     assert!(rt; records(rt.alloc(), issues, None, ISSUE_RECORDS));
 }
+
+/// A range and a draw of which each number and each day that a caller can choose is the greatest.
+const GREATEST_CALLS: &[Step] = &[
+    (
+        0,
+        4_294_967_295,
+        Grant(4_294_967_295, 99_999_998, 99_999_999),
+        4_294_967_295,
+        Granted(1),
+    ),
+    (
+        4_294_967_295,
+        4_294_967_295,
+        Draw,
+        4_294_967_295,
+        Drawn(4_294_967_295, 99_999_998),
+    ),
+];
+
+const GREATEST_RANGE: &[u8] = b"range customer service country first last used voided free\n\
+1 4294967295 RA GB 99999998 99999999 1 0 1\n";
+
+const GREATEST_ISSUE: &[u8] = b"arrival day customer number identifier state\n\
+2 4294967295 4294967295 4294967295 RA999999987GB issued\n";
+
+const GREATEST_RANGE_RECORD: &[u8] =
+    b"range,customer,service,country,first,last,used,voided,free,closed,day,date\r\n\
+1,4294967295,RA,GB,99999998,99999999,1,0,1,no,4294967295,11761191-01-20\r\n";
+
+const GREATEST_ISSUE_RECORD: &[u8] = b"arrival,day,date,customer,number,identifier,range,state\r\n\
+2,4294967295,11761191-01-20,4294967295,4294967295,RA999999987GB,1,issued\r\n";
+
+#[test]
+fn a_report_has_room_for_the_greatest_numbers(rt: HostRuntime) {
+    let reports = &[
+        (Some(4_294_967_295), GREATEST_RANGE),
+        (None, GREATEST_ISSUE),
+    ];
+    are_reported(&rt, "greatest", GREATEST_CALLS, reports);
+    let ranges = book_after(&rt, "greatest", GREATEST_CALLS);
+    assert!(rt;
+        records(
+            rt.alloc(),
+            ranges,
+            Some(4_294_967_295),
+            GREATEST_RANGE_RECORD
+        )
+    );
+    let issues = book_after(&rt, "greatest", GREATEST_CALLS);
+    assert!(rt; records(rt.alloc(), issues, None, GREATEST_ISSUE_RECORD));
+}
