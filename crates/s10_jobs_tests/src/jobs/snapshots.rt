@@ -1,6 +1,6 @@
 //! Snapshots of a ledger's two files, over readings that follow a script and over real files.
 
-ghost use Rattle.std.specs.Prelude.{[], reverse};
+ghost use Rattle.std.specs.Prelude.{◌≡◌, ◌∷◌, [], reverse};
 
 use http_server::Log;
 use s10_snapshot::{
@@ -63,7 +63,8 @@ const NO_HEADER_AGAIN: Step = (FIRST, Ok("file"), Ok(LOG), Err(ReadFault::Store)
 struct Scripted<'a> {
     alloc: Global,
     steps: &'a [Step],
-    // The calls that were made of the first step.
+    // The index of the step that is next, and the calls that were made of it.
+    at: usize,
     made: u8,
     log: Log<ReadCall, Result<Vec<u8>, ReadFault>>,
 }
@@ -93,20 +94,26 @@ fn answer_of(step: Step, made: u8, call: ReadCall) -> Answer {
 
 impl Scripted<'_> {
     /// Goes on to the next call, or after the last one or one that failed to the next step.
-    fn go_on(&mut self, call: ReadCall, answer: Answer) {
+    fn go_on(&mut self, call: ReadCall, answer: Answer)
+        ensures { self.new.log ≡ self.old.log }
+    {
         let fails = match answer {
             Ok(_) => false,
             Err(fault) => call.part == Part::File || fault != ReadFault::Missing,
         };
         if fails || self.made >= 3 {
             self.made = 0;
-            self.steps = match self.steps.split_first() {
-                Some((_, rest)) => rest,
-                None => &[],
-            };
+            self.at = self.at.saturating_add(1);
         } else {
             self.made += 1;
         }
+    }
+
+    /// Logs a call and what it returned.
+    fn log_call(&mut self, call: ReadCall, read: &Result<Vec<u8>, ReadFault>)
+        ensures { reverse self.new.log.items ≡ (call, read.now) ∷ reverse self.old.log.items }
+    {
+        self.log = self.log.and(&call, read);
     }
 }
 
@@ -117,7 +124,7 @@ impl Source for Scripted<'_> {
 
     fn read(&mut self, part: Part, most: u64) -> Result<Vec<u8>, ReadFault> {
         let call = ReadCall { part, most };
-        let answer = match self.steps.first() {
+        let answer = match self.steps.get(self.at) {
             Some(step) => answer_of(*step, self.made, call),
             None => Err(ReadFault::Store),
         };
@@ -126,7 +133,7 @@ impl Source for Scripted<'_> {
             Ok(text) => bytes_of(self.alloc, text),
             Err(fault) => Err(fault),
         };
-        self.log = self.log.and(&call, &read);
+        self.log_call(call, &read);
         read
     }
 }
@@ -187,12 +194,12 @@ fn comes_to(alloc: Global, script: &Script) -> bool {
     let mut source = Scripted {
         alloc,
         steps,
+        at: 0,
         made: 0,
         log: Log::new(),
     };
     let taken = take_snapshot(alloc, &mut source);
-    let left = source.steps.len();
-    is_taken(taken, wanted) && left.checked_add(made) == Some(steps.len())
+    is_taken(taken, wanted) && source.at == made
 }
 
 #[test]
