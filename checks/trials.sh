@@ -478,13 +478,13 @@ group open
 "$s10" create --ledger ../served --interval 30 --limit 1000 >../out
 serve ../served
 ask grant --number 1 --holder 7 --service RA --country GB --first 0 --last 2 >../out
-for file in closed full; do notes 0 created "+$file 55,+$file.lock 0" "$file"; done
+for file in closed full; do notes 0 created "+$file 76,+$file.lock 0" "$file"; done
 draw_by_notes() { # SINK WORDS
     sink=$1
-    tries 3 '' "error: the output cannot be written: $2" "~$1 85" \
+    tries 3 '' "error: the output cannot be written: $2" "~$1 106" \
         draw --to "$address" --notes "$1" --service RA --country GB
     sink=kept
-    tries 0 'reply draw customer 7 number 1 RA GB done day 20000 RA000000005GB' '' "~$1 55" \
+    tries 0 'reply draw customer 7 number 1 RA GB done day 20000 RA000000005GB' '' "~$1 76" \
         again --to "$address" --notes "$1"
 }
 draw_by_notes closed 'Bad file descriptor (os error 9)'
