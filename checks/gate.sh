@@ -13,7 +13,7 @@
 set -u -o pipefail
 
 # The checks that must run under CI. The others need a browser, tshark, or the right to mount a disk.
-GATE_MUST='front_door counts build_log texts edges completions pages killed_server killed_server_64 until killed_notes
+GATE_MUST='front_door counts build_log texts edges completions pages damaged killed_server killed_server_64 until killed_notes
     killed_copy days_ahead trials refused_program together snapshots shards sizes package library c_library draw notes_files
     notes_examples closed_streams file_size_limit synced refused_sockets'
 
@@ -145,6 +145,7 @@ run_checks() {
     check ledger_page 600 'program python3' env S10="$s10" python3 "$contrib/test_ledger_page.py"
     check dissector 900 'program python3 tshark' env S10="$s10" python3 "$contrib/test_dissector.py"
     check pages 1800 'program python3' python3 "$checks/documents.py" "$s10"
+    check damaged 1800 'program python3' python3 "$checks/damaged.py" "$s10" 400
     check killed_server 900 program sh "$checks/killed_server.sh" "$s10"
     check killed_server_64 900 program sh "$checks/killed_server.sh" "$s10" 64
     check until 300 program sh "$checks/until.sh" "$s10"

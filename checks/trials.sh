@@ -169,6 +169,8 @@ note='CREATE TABLE note (serial INTEGER NOT NULL, text TEXT NOT NULL) STRICT'
 
 group files
 : >empty
+: >emptied
+printf 'its log' >emptied-wal
 printf 'a text, and longer than sixteen bytes\n' >text
 printf 'short' >short
 head -c 8192 /dev/zero >zeros
@@ -178,6 +180,13 @@ ln -s nothing dangling
 refused missing 'ledger not-a-ledger' 'cannot open missing: No such file or directory (os error 2)' ''
 refused empty 'ledger not-a-ledger' 'cannot open empty: it is empty' ''
 refused dangling 'ledger not-a-ledger' 'cannot open dangling: No such file or directory (os error 2)' ''
+refused emptied 'ledger not-a-ledger' 'cannot open emptied: it is empty, and its log emptied-wal is not' ''
+create 3 'ledger not-empty' 'cannot open emptied: it is empty, and its log emptied-wal is not' '' emptied
+for file in :memory: file:x; do
+    create 3 'ledger store' "cannot open $file: unable to open database file" '' "$file"
+done
+long=$(printf '%0248d' 0)
+create 3 'ledger store' "cannot open $long: File name too long (os error 36)" '' "$long"
 refused nowhere/missing 'ledger store' 'cannot open nowhere/missing: No such file or directory (os error 2)' ''
 create 3 'ledger store' 'cannot open nowhere/missing: No such file or directory (os error 2)' '' nowhere/missing
 create 3 'ledger store' 'cannot open dangling: No such file or directory (os error 2)' '' dangling
@@ -192,7 +201,7 @@ for file in pipe /dev/null; do
     create 3 'ledger store' "cannot open $file: unable to open database file" '' "$file"
 done
 create 0 created '' '+ledger 32768,+ledger-wal 41' ledger
-create 3 'ledger not-empty' '' '~ledger-wal 41' ledger
+create 3 'ledger not-empty' '' '' ledger
 create 0 created '' '+empty-wal 41,~empty 32768' empty
 ln -s ledger link
 tries 0 'ledger ok 0' '' '~ledger-wal 41' audit --ledger link
@@ -221,7 +230,7 @@ for size in 0 600; do
     head -c "$size" /dev/zero >spent-journal
     tries 0 'ledger ok 0' '' "$([ "$size" = 0 ] && echo '+' || echo '~')spent-wal 41" audit --ledger spent
     tries 0 'range customer service country first last used voided free' '' '~spent-wal 41' report --ledger spent --day 20000
-    create 3 'ledger not-empty' '' '~spent-wal 41' spent
+    create 3 'ledger not-empty' '' '' spent
 done
 sqlite3 ledger "$note; INSERT INTO note VALUES (1, CAST(zeroblob(12000000) AS TEXT))"
 tries 0 'ledger ok 0' 'opening ledger: 12 MB' '+ledger-wal 41' audit --ledger ledger
@@ -238,7 +247,7 @@ stop
 tries 0 'ledger ok 3' '' '' audit --ledger ledger
 tries 0 'range customer service country first last used voided free|1 7 RA GB 00000000 00000002 2 0 1' '' \
     '~ledger 32768,~ledger-wal 41' report --ledger ledger --day 20000
-create 3 'ledger not-empty' '' '~ledger-wal 41' ledger
+create 3 'ledger not-empty' '' '' ledger
 tries 0 'ledger ok 3' '' '~ledger-wal 41' audit --ledger ledger
 cp ledger before
 while IFS='|' read -r line change; do
@@ -256,8 +265,8 @@ ledger not-a-ledger|DELETE FROM head
 END
 printf 'a text, and longer than sixteen bytes\n' >text
 printf 'its log' >text-wal
-refused text 'ledger store' 'cannot open text: file is not a database that obeys its schema' ''
-create 3 'ledger store' 'cannot open text: file is not a database that obeys its schema' '' text
+refused text 'ledger store' 'cannot open text: it is not a database' ''
+create 3 'ledger store' 'cannot open text: it is not a database' '' text
 
 if [ -n "$is_root" ]; then
 group users
@@ -299,12 +308,12 @@ create 0 created '' '+ledger 32768,+ledger-wal 41' ledger
 cp ledger alone
 : >empty
 fill
-create 3 'ledger store' 'cannot open new: database or disk is full' '+new 0' new
+create 3 'ledger store' 'cannot open new: database or disk is full' '' new
 create 3 'ledger store' 'cannot open empty: database or disk is full' '' empty
 refused alone 'ledger store' 'cannot open alone: database or disk is full' ''
 tries 0 'ledger ok 0' '' '~ledger-wal 41' audit --ledger ledger
 rm filler
-create 0 created '' '+new-wal 41,~new 32768' new
+create 0 created '' '+new 32768,+new-wal 41' new
 tries 0 'ledger ok 0' '' '+alone-wal 41' audit --ledger alone
 
 # A server whose disk fills withholds the reply to a call that it cannot write, and replies to repeats of committed calls. Once

@@ -1,6 +1,7 @@
 -- What an audit finds, and what it leaves of the files.
 use Rattle.std.proofs.Common.{◌≡◌, ◌⊎◌, ◌∙◌, ap, ℕ, List, [], ◌++◌, append-nil, inl, inr, Result, Ok}
-use Rattle.std.proofs.Common.{sym, subst, length, IsTrue}
+use Rattle.std.proofs.Common.{sym, subst, length, Bool, false, IsTrue}
+use Rattle.std.proofs.lemmas.Bool.{cases_Bool, both_ways}
 use Rattle.std.proofs.Math.Logic.{∥∥₁_map}
 use Rattle.sqlite_disk.specs.declared.Disk as disk
 use Rattle.sqlite_disk.specs.declared.Files.{Files}
@@ -14,7 +15,7 @@ use Rattle.sqlite_trees.proofs.Doubt.{no_doubt}
 use Rattle.sqlite_pool.proofs.StateLemmas.{clean_is, may_leave_is}
 use Rattle.sqlite_store.specs.declared.store.FileStore.{FileStore}
 use Rattle.sqlite_store.specs.FileStore.{view, recovers, files as store_files}
-use Rattle.sqlite_store.specs.Laws.{settled_at}
+use Rattle.sqlite_store.specs.Laws.{settled_at, shut_is_broken}
 use Rattle.sqlite.specs.Effect.{Database}
 use Rattle.sqlite.specs.Files.{file_state, over_files, HoldsDatabase, IsOpened}
 use Rattle.sqlite.specs.Held.{AreDatabases}
@@ -28,7 +29,7 @@ use Rattle.s10_ledger.specs.Ledger.{Ledger, IsAnyLedger, IsHonest, history_in, h
 use Rattle.s10_ledger.specs.Ledger.{IsCompletedIn, MayComplete}
 use Rattle.s10_statements.specs.ConnectionState.{IsClean, IsOpen, WasSound}
 use Rattle.s10_host.specs.Audited.{HasFound, KeepsAudited}
-use Rattle.s10_host.specs.Files.{Hold, IsStoreOf}
+use Rattle.s10_host.specs.Files.{Hold, IsStoreOf, Keeps}
 use Rattle.s10_host.proofs.Opening.{left_clean}
 
 -- A ledger that was opened and closed is found, with its calls.
@@ -64,6 +65,11 @@ found_calls g before closed book count same opened honest ledger shows history s
       crash = crash;
     } in
     subst (λ c. HasFound g before c (Ok count)) (sym same) found
+
+open_or_broken : {is_open is_broken : Bool} → IsTrue is_open ⊎ (is_open ≡ false)
+    → is_broken ≡ false → (is_open ≡ false → IsTrue is_broken) → IsTrue is_open
+open_or_broken (inl is) sound shut = is
+open_or_broken (inr is) sound shut = absurd (both_ways _ sound (shut is))
 
 module _ {D : Type 0} {g : disk.Ghosts D} where
   -- What is true of all that a crash leaves of a store is true of what its files hold.
@@ -113,4 +119,24 @@ module _ {D : Type 0} {g : disk.Ghosts D} where
               settled_at left.store stays db live (of.quiet.outcomes db may)
               ∙ ap (λ (d : Database). d.trees) (counted.committed sound live)),
         );
+      }
+
+  -- A store that is not broken is open.
+  still_open : (it : FileStore D g) → (view it).is_broken ≡ false → IsTrue (view it).is_open
+  still_open it sound = open_or_broken (cases_Bool (view it).is_open) sound (shut_is_broken it)
+
+  -- The files of a refused connection hold its last commit.
+  pub keeps_refused : (c : Held (FileStore D g)) (it : FileStore D g) (files : Files D)
+      → SeenMayStay g → IsStoreOf over_files c it → (files.log, files.db) ≡ store_files it
+      → (doubt (view it).is_clean ≡ 0 → (view it).is_broken ≡ false) → Keeps c files
+  keeps_refused c it files stays of same sound clean =
+      let sure = subst (λ p. AreClean g p.0 p.1) same clean in
+      let none : doubt (view it).is_clean ≡ 0 =
+      no_doubt _ (subst IsTrue (sym (clean_is it.pool)) sure) in
+      let was_open : IsOpen over_files c = (of.undone.kept none).was_open (still_open it (sound none)) in
+      record {
+        was_clean = left_clean c it files of.quiet.clean same clean;
+        was_open = was_open;
+        held = all_hold it files _ stays same clean (of.numbered none) (of.sound none) (λ db may.
+            settled_at c.store stays db was_open (of.quiet.outcomes db may));
       }

@@ -21,7 +21,7 @@ use Rattle.s10_book.specs.declared.book_fault.BookFault.{BookFault}
 use Rattle.s10_book.specs.Book.{Unchanged}
 use Rattle.s10_ledger.specs.Ledger.{IsOverCleanDisk, MayFind, IsHonest, history_of, committed_of}
 use Rattle.s10_rows.specs.declared.open_fault.OpenFault.{OpenFault}
-use Rattle.s10_rows.specs.declared.open_fault.OpenFault.TheVariants.{Store}
+use Rattle.s10_rows.specs.declared.open_fault.OpenFault.TheVariants.{NotEmpty, Store}
 use Rattle.s10_jobs.specs.declared.job_status.JobStatus.{JobStatus}
 use Rattle.s10_jobs.specs.declared.job_status.JobStatus.TheVariants.{Done, Refused, Failed}
 use Rattle.s10_jobs.specs.declared.turn_options.TurnOptions.{TurnOptions}
@@ -37,7 +37,7 @@ use Rattle.s10_reports.specs.declared.issues_report.IssuesReport.{IssuesReport}
 use Rattle.s10_jobs.specs.Unbound.{IsUnbound}
 use Rattle.s10_host.specs.Files.{FileConnection, FileLedger, ClosedFiles, Copies, ClosesInto}
 use Rattle.s10_host.specs.Files.{IsFoundIn, IsFileFault, IsAbsenceOr, IsNotMade, IsNotOpened}
-use Rattle.s10_host.specs.Files.{LeavesClean, AreFilesOf, KeepsRefused}
+use Rattle.s10_host.specs.Files.{LeavesClean, AreFilesOf, Keeps, KeepsRefused, IsUnopenedAs}
 use Rattle.s10_host.specs.Audited.{HasFound, KeepsAudited, audit_line, audit_status}
 use Rattle.s10_host.specs.Closing.{IsClosedAs, TurnsUntil}
 use Rattle.s10_host.specs.Jobs.{ledger_line, FailsByLedger, FailsByClosing, EndsAs, IsAskedFor}
@@ -57,7 +57,7 @@ use Rattle.s10_statements.specs.ConnectionState.{IsOpen}
 use Rattle.s10_statements.specs.Creating.{IsCreateRefusal}
 use Rattle.s10_ledger.specs.Refusals.{IsOpeningRefusal}
 use Rattle.s10_host.proofs.Opening.{empty_book, found_book, closed_into, still_none, calls_all}
-use Rattle.s10_host.proofs.Opening.{all_kept_refused}
+use Rattle.s10_host.proofs.Opening.{all_kept_refused, shown}
 
 -- A job that failed by a fault, which was printed.
 pub fails_by : (IsFault : OpenFault → Type 0) (fault : OpenFault) (old new : Option (List ℕ))
@@ -158,18 +158,18 @@ module _ {D : Type 0} {g : disk.Ghosts D} where
       (fault : OpenFault) (result : Result JobStatus WriteFault) (files : Option (Files D))
       → IsRefusedAs over_files job was left fault → between ≡ old
       → IfOk result (λ status. (status ≡ Failed) × Appends between new (ledger_line fault))
-      → IfSome files (Copies left)
+      → IfSome files (AreFilesOf left) → IfSome files (Keeps left)
       → (IsOpen over_files left → (file_state left).committed ≡ (file_state left).now)
       → EndsOver gives job begun ended due x y was old new result files None
   refused_over gives job begun ended was left old between new fault result files refused still says
-      copies committed =
+      of keeps committed =
       inr (record {
         fault = fault;
         left = left;
         refusal = refused.refusal;
         printed = subst (λ text. IfOk result (λ status. (status ≡ Failed)
             × Appends text new (ledger_line fault))) still says;
-        kept = all_kept_refused job was left fault files refused committed copies;
+        kept = all_kept_refused job was left fault files refused committed of keeps;
         no_link = refl;
       })
 
@@ -265,14 +265,14 @@ module _ (S : RattleType) (first : Ghosts S.Denot) where
       record {
         closed = tt;
         refused = λ _. fails_weaker (λ fault. fault ≡ Store) (IsNotMade S first)
-            (λ fault is. inl (inr is)) over.done old new result
+            (λ fault is. inl (inl (inr is))) over.done old new result
             (subst (λ text. FailsByClosing over.done text new result) still (over.lost refl));
       }
 
   -- A ledger whose file could not be opened.
   pub not_connected : (terms : Terms) (fault : OpenFault) (old new : Option (List ℕ))
       (printed result : Result JobStatus WriteFault) (files : Option (ClosedFiles S first))
-      → IsFileFault fault
+      → IsUnopenedAs S first NotEmpty fault
       → IfOk printed (λ status. (status ≡ Failed) × Appends old new (ledger_line fault))
       → result ≡ printed → files ≡ None → HasCreated S first terms old new result files
   not_connected terms fault old new printed result (Some f) is says same none = absurd cc
@@ -442,7 +442,7 @@ module _ (S : RattleType) (first : Ghosts S.Denot) where
         unlinked = λ _. inr (inr (inr (
           (at, text),
           opened,
-          found_book (image_at first) was opened found opening,
+          found_book (image_at first) was opened (shown (image_at first) was found) opening,
           unlinked old over.between new opened served over.closed over.committed over.done result
               files opening.none_pending (unbound refl) put over.kept over.lost,
         )));
@@ -454,7 +454,7 @@ module _ (S : RattleType) (first : Ghosts S.Denot) where
         at = (at, text, bound);
         served = (
           opened,
-          found_book (image_at first) was opened found opening,
+          found_book (image_at first) was opened (shown (image_at first) was found) opening,
           served_away gives options begun ended named old over.between new opened served over.closed
               over.committed over.done result files l (after, turns) put over.kept,
           λ none. record {
@@ -623,7 +623,7 @@ module _ (S : RattleType) (first : Ghosts S.Denot) where
       let (opened, opening, reported, put, unchanged, written, none) = over.worked in
       inr (
         opened,
-        found_book (image_at first) was opened found opening,
+        found_book (image_at first) was opened (shown (image_at first) was found) opening,
         reported_away old over.between new report opened reported over.closed over.committed
             over.done result files opening.none_pending unchanged written put over.kept,
         λ gone. record {

@@ -16,7 +16,8 @@ use Rattle.sqlite_store.specs.declared.store.FileStore.{FileStore}
 use Rattle.sqlite_store.specs.FileStore.{view, files as store_files}
 use Rattle.sqlite.specs.Effect.{Database}
 use Rattle.sqlite.specs.Held.{Held, state}
-use Rattle.sqlite.specs.Files.{file_state, over_files, AreFoundIn}
+use Rattle.sqlite.specs.Files.{file_state, over_files, AreFoundIn, IsOpened}
+use Rattle.sqlite.specs.Start.{FindsIn}
 use Rattle.s10_history.specs.declared.entry.Entry.{Entry}
 use Rattle.s10_history.specs.Settings.{Terms}
 use Rattle.s10_history.specs.History.{day_of}
@@ -36,7 +37,7 @@ use Rattle.s10_host.specs.declared.ledger_job.LedgerJob.{LedgerJob}
 use Rattle.s10_host.specs.declared.ledger_job.LedgerJob.TheVariants.{Create, Serve, Report as ReportOn, Audit}
 use Rattle.s10_host.specs.LedgerJobs.{IsMadeWith, IsOpenedFrom}
 use Rattle.s10_host.specs.LedgerJobs.{IsJobRefusal, IsRefusedBy, IsRefusedAs}
-use Rattle.s10_host.specs.Files.{KeepsRefused}
+use Rattle.s10_host.specs.Files.{AreFilesOf, Keeps, KeepsRefused}
 
 -- A book without pending calls has the history that its tables hold.
 pub none_pending : {S : Type 0} (g : store.Ghosts S) (book : Ledger S) (h : List Entry)
@@ -124,28 +125,36 @@ module _ {D : Type 0} {g : Ghosts D} where
   kept_refused : (job : LedgerJob) (was left : Held (FileStore D g)) (fault : OpenFault)
       (files : Files D) → IsRefusedAs over_files job was left fault
       → (IsOpen over_files left → (file_state left).committed ≡ (file_state left).now)
-      → Copies left files → KeepsRefused was (IsRefusedBy job fault) files
-  kept_refused job was left fault files refused committed copies clean =
-      let copied = copies clean in
+      → AreFilesOf left files → Keeps left files → KeepsRefused was (IsRefusedBy job fault) files
+  kept_refused job was left fault files refused committed of keeps clean =
+      let kept = keeps clean in
       record {
-        sound = (refused.sound copied.was_clean).0;
-        refused = refused_by job was left fault refused.refusal copied.was_clean copied.was_open;
+        sound = (refused.sound kept.was_clean).0;
+        refused = refused_by job was left fault refused.refusal kept.was_clean kept.was_open;
         left = left;
-        same = refused.kept copied.was_clean copied.was_open;
-        quiescent = committed copied.was_open;
-        copied = copied;
+        same = refused.kept kept.was_clean kept.was_open;
+        quiescent = committed kept.was_open;
+        of = of;
+        kept = kept;
       }
 
   pub all_kept_refused : (job : LedgerJob) (was left : Held (FileStore D g)) (fault : OpenFault)
       (files : Option (Files D)) → IsRefusedAs over_files job was left fault
       → (IsOpen over_files left → (file_state left).committed ≡ (file_state left).now)
-      → IfSome files (Copies left) → IfSome files (KeepsRefused was (IsRefusedBy job fault))
-  all_kept_refused job was left fault None refused committed copies = tt
-  all_kept_refused job was left fault (Some f) refused committed copies =
-      kept_refused job was left fault f refused committed copies
+      → IfSome files (AreFilesOf left) → IfSome files (Keeps left)
+      → IfSome files (KeepsRefused was (IsRefusedBy job fault))
+  all_kept_refused job was left fault None refused committed of keeps = tt
+  all_kept_refused job was left fault (Some f) refused committed of keeps =
+      kept_refused job was left fault f refused committed of keeps
+
+  -- A connection that was found in files shows what these held.
+  pub shown : (held : Image) (was : Held (FileStore D g)) → IsFoundIn held was
+      → IsClean over_files was → IsOpened was × FindsIn held (file_state was)
+  shown held was found clean = let (first, finds, whole) = found clean in (first, finds)
 
   pub found_book : (held : Image) (was : Held (FileStore D g)) (book : Ledger (FileStore D g))
-      → IsFoundIn held was → IsOpenedFrom over_files was book → WhereClean (IsFoundBook held) book
+      → (IsClean over_files was → IsOpened was × FindsIn held (file_state was))
+      → IsOpenedFrom over_files was book → WhereClean (IsFoundBook held) book
   found_book held was book found opening clean =
       let sound = opening.honest clean in
       let (first, finds) = found (opening.sound clean).0 in

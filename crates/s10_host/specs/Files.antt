@@ -1,6 +1,6 @@
 -- Defines ledgers in files, as they are created, opened and closed.
 use denote.RattleType.{RattleType}
-use Rattle.std.specs.Prelude.{◌≡◌, ◌⊎◌, false, List, [], length, IsTrue}
+use Rattle.std.specs.Prelude.{◌≡◌, ◌⊎◌, ◌<◌, false, List, [], length, IsTrue}
 use Rattle.sqlite_disk.specs.declared.Disk.{Ghosts}
 use Rattle.sqlite_disk.specs.declared.Files.{Files}
 use Rattle.sqlite_disk.specs.declared.modelled.Modelled.{Modelled}
@@ -30,7 +30,8 @@ use Rattle.s10_history.specs.History.{day_of}
 use Rattle.s10_ledger.specs.Ledger.{Ledger, IsLedger, IsAnyLedger, IsHonest, history_in}
 use Rattle.s10_ledger.specs.Ledger.{history_of}
 use Rattle.s10_rows.specs.declared.open_fault.OpenFault.{OpenFault}
-use Rattle.s10_rows.specs.declared.open_fault.OpenFault.TheVariants.{NotALedger, Memory, Store}
+use Rattle.s10_rows.specs.declared.open_fault.OpenFault.TheVariants.{NotALedger, NotEmpty, Memory}
+use Rattle.s10_rows.specs.declared.open_fault.OpenFault.TheVariants.{Store}
 use Rattle.s10_ledger.specs.Refusals.{IsOpeningRefusal}
 use Rattle.s10_statements.specs.Creating.{HasOneOfTheNames, IsCreateRefusal}
 use Rattle.s10_statements.specs.ConnectionState.{IsClean, IsOpen}
@@ -49,10 +50,19 @@ pub record Hold {D : Type 0} (g : Ghosts D) (Is : Trees → Type 0) (files : Fil
   pub stopped : (image : Image) → outcomes g files.log files.db image
       → ∥ ((db : Trees) × HoldsDatabase image db × Is db) ∥₁
 
+-- The database file is empty and its log is not.
+abbrev pub IsEmptied : Image → Type 0
+IsEmptied held = (length held.db ≡ 0) × (0 < length held.log)
+
 module _ {D : Type 0} {g : Ghosts D} where
-  -- The connection is open and shows what the files held, if the disk is clean.
+  -- The connection is open and shows what the files held. The database file was not emptied beside
+  -- its log.
+  abbrev pub IsReadFrom : Image → Held (FileStore D g) → Type 0
+  IsReadFrom held c = IsOpened c × FindsIn held (file_state c) × (¬ IsEmptied held)
+
+  -- The same, if the disk is clean.
   abbrev pub IsFoundIn : Image → Held (FileStore D g) → Type 0
-  IsFoundIn held c = IsClean over_files c → IsOpened c × FindsIn held (file_state c)
+  IsFoundIn held c = IsClean over_files c → IsReadFrom held c
 
   -- New files have no checksums: a write by a program that does not know of them would make them
   -- wrong.
@@ -69,7 +79,7 @@ module _ {D : Type 0} {g : Ghosts D} where
     pub empty : history_of over_files book ≡ []
     -- What the connection showed when the files were opened.
     pub was : Held (FileStore D g)
-    pub opened : IsOpened was × FindsIn held (file_state was)
+    pub opened : IsReadFrom held was
     pub fresh : ¬ HasOneOfTheNames (file_state was).now.schema
 
   -- An honest ledger over the database that the files held, which was a ledger when it was found.
@@ -115,8 +125,19 @@ module _ {D : Type 0} {g : Ghosts D} where
     pub same : (files.log, files.db) ≡ store_files left
     pub of : IsStoreOf over_files c left
 
+  -- The files hold the last commit of the connection, as they read now and after a crash. It may be
+  -- in the log alone.
+  pub record IsKeptIn (c : Held (FileStore D g)) (files : Files D) : Type 0 where
+    pub was_clean : IsClean over_files c
+    pub was_open : IsOpen over_files c
+    pub held : Hold g (λ db. db ≡ (file_state c).committed.trees) files
+
+  -- The same, if both files kept what was written.
+  abbrev pub Keeps : Held (FileStore D g) → Files D → Type 0
+  Keeps c files = AreClean g files.log files.db → IsKeptIn c files
+
   -- The database that a connection showed is refused for this reason, and the files hold it, also
-  -- after a crash.
+  -- after a crash. They were closed as they were, without a write.
   pub record HoldsRefused (was : Held (FileStore D g)) (Refuses : Database → Type 0)
       (files : Files D) : Type 0 where
     pub sound : IsClean over_files was
@@ -124,7 +145,8 @@ module _ {D : Type 0} {g : Ghosts D} where
     pub left : Held (FileStore D g)
     pub same : (file_state left).now ≡ (file_state was).now
     pub quiescent : (file_state left).committed ≡ (file_state left).now
-    pub copied : IsCopied left files
+    pub of : AreFilesOf left files
+    pub kept : IsKeptIn left files
 
   -- The files of a refused database hold it, if both kept what was written.
   abbrev pub KeepsRefused : Held (FileStore D g) → (Database → Type 0) → Files D → Type 0
@@ -167,9 +189,18 @@ module _ (S : RattleType) (first : start.Ghosts S.Denot) where
     pub found : IsFoundIn (image_at first) was
     pub refusal : IsCreateRefusal (file_state was).now.schema fault
 
+  -- The database file was found empty and its log not, if both are clean.
+  pub record IsFoundEmptied : Type 0 where
+    pub files : ClosedFiles S first
+    pub emptied : AreClean (system_files S first) files.log files.db → IsEmptied (image_at first)
+
+  -- The files could not be opened as a database, or they were emptied, which is this fault.
+  abbrev pub IsUnopenedAs : OpenFault → OpenFault → Type 0
+  IsUnopenedAs of_emptied fault = IsFileFault fault ⊎ ((fault ≡ of_emptied) × IsFoundEmptied)
+
   -- Why no ledger was created: the file could not be opened, or its database is refused.
   abbrev pub IsNotMade : OpenFault → Type 0
-  IsNotMade fault = IsFileFault fault ⊎ IsRefusedPlace fault
+  IsNotMade fault = IsUnopenedAs NotEmpty fault ⊎ IsRefusedPlace fault
 
   -- The database that was found in the files is refused as a ledger, if the disk is clean and the
   -- connection open.

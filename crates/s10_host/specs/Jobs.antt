@@ -8,8 +8,7 @@ use Rattle.sqlite_disk.specs.declared.start.Start.{Ghosts}
 use Rattle.sqlite_wal.specs.Files.{image_at}
 use Rattle.sqlite_wal.specs.Reads.{AreClean}
 use Rattle.sqlite.specs.Effect.{Database}
-use Rattle.sqlite.specs.Files.{over_files, file_state, IsOpened}
-use Rattle.sqlite.specs.Start.{FindsIn}
+use Rattle.sqlite.specs.Files.{over_files}
 use Rattle.s10_link.specs.declared.peer.Peer.{Peer}
 use Rattle.s10_link.specs.Peer.{SpellsPeer}
 use Rattle.s10_link.specs.UdpLink.{BoundLink, IsBoundAt}
@@ -44,7 +43,7 @@ use Rattle.s10_host.specs.LoopRun.{HasRunLoop}
 use Rattle.s10_host.specs.Files.{FileConnection, FileLedger, ClosedFiles, WhereClean, IsFoundIn}
 use Rattle.s10_host.specs.Files.{IsEmptyBook, IsFoundBook, ClosesInto, LeavesClean, IsFileFault}
 use Rattle.s10_host.specs.Files.{IsAbsenceOr, IsNotMade, IsNotOpened, HoldsRefused, AreFilesOf}
-use Rattle.s10_host.specs.Files.{system_files}
+use Rattle.s10_host.specs.Files.{IsReadFrom, system_files}
 use Rattle.s10_statements.specs.Creating.{IsCreateRefusal}
 use Rattle.s10_ledger.specs.Refusals.{IsOpeningRefusal}
 
@@ -105,7 +104,7 @@ module _ (S : RattleType) (first : Ghosts S.Denot) where
     pub fault : OpenFault
     pub printed : IfOk result (λ status. (status ≡ Failed) × Appends old new (ledger_line fault))
     pub kept : AreClean (system_files S first) files.log files.db
-        → (was : FileConnection S first) × (IsOpened was × FindsIn (image_at first) (file_state was))
+        → (was : FileConnection S first) × IsReadFrom (image_at first) was
         × HoldsRefused was (Refuses fault) files
 
   -- An empty ledger with these settings was created, and closed in these files.
@@ -263,8 +262,7 @@ module _ (S : RattleType) (first : Ghosts S.Denot) where
     pub leaves : LeavesClean left files
     pub of : AreFilesOf left files
     pub kept : AreClean (system_files S first) files.log files.db
-        → (IsOpened opened × FindsIn (image_at first) (file_state opened))
-        × HoldsAudited opened left finding files
+        → IsReadFrom (image_at first) opened × HoldsAudited opened left finding files
 
   -- The ledger was audited, or the line says why the files could not be opened.
   pub record HasAudited (old new : Option (List ℕ)) (result : Result JobStatus WriteFault)

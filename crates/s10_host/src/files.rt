@@ -4,13 +4,15 @@ ghost use Rattle.std.specs.Prelude.{◌≡◌, false, IfOk, IfErr, IfSome};
 ghost use Rattle.sqlite.specs.Files.{file_state, over_files};
 ghost use Rattle.s10_statements.specs.ConnectionState.{IsOpen};
 ghost use Rattle.sqlite_wal.specs.Files.{image_at};
-ghost use Rattle.s10_host.specs.Files.{IsFoundIn, IsPlain, Copies, IsFileFault, IsAbsenceOr};
+ghost use Rattle.s10_host.specs.Files.{IsFoundIn, IsPlain, Copies, Keeps, AreFilesOf};
+ghost use Rattle.s10_host.specs.Files.{IsFileFault, IsAbsenceOr, IsUnopenedAs};
 
-use crate::ledger_file::LedgerFile;
-use crate::opened_files::open_with_cache;
+use crate::ledger_file::{LedgerFile, len_of};
+use crate::opened_files::{Unopened, is_no_path, open_with_cache};
 use s10_ledger::OpenFault;
 use sqlite::{Connection, Error, ErrorCode, FileFrom, FileStore, Files, Start};
 use sqlite_disk::Disk;
+use sqlite_trees::store::Store;
 use std::fs::OpenOptions;
 use std::io::ErrorKind;
 use std::os::unix::fs::OpenOptionsExt;
@@ -69,7 +71,7 @@ fn fault_of_closing<D: Disk + Drop>(
 ///
 /// The reason is printed to standard error.
 ///
-/// - `NotALedger` if the file does not exist, or is empty and has no log or an empty one.
+/// - `NotALedger` if the file does not exist or is empty, also beside a log.
 /// - `Memory` if out of memory.
 /// - `Store` if the file is not a database, its folder does not exist, or the file cannot be
 ///   opened.
@@ -85,7 +87,7 @@ pub(crate) fn connect_to_ledger<S: Start>(
 {
     match fs::exists(rt, file.path) {
         Ok(true) => match file.fault_of_existing(rt) {
-            None => connect(rt, file, start),
+            None => connect(rt, file, OpenFault::NotALedger, start),
             Some(fault) => Err(fault),
         },
         Ok(false) => Err(fault_of_missing(rt, file.path)),
@@ -105,7 +107,8 @@ fn fault_of_system(rt: &HostRuntime, path: &str, cause: &io::Error) -> OpenFault
 ///
 /// # Errors
 ///
-/// `Store` if it cannot be created. The reason is printed to standard error.
+/// `Store` if it cannot be created, or is at a path that cannot be opened. The reason is printed to
+/// standard error.
 pub(crate) fn find_or_create<'a>(
     rt: &HostRuntime,
     path: &'a str,
@@ -113,7 +116,8 @@ pub(crate) fn find_or_create<'a>(
     ensures refused { IfErr result IsFileFault }
 {
     match create_missing(rt, path) {
-        Ok(()) => Ok(LedgerFile::find(rt, path)),
+        Ok(true) => Ok(LedgerFile::created(rt, path)),
+        Ok(false) => Ok(LedgerFile::find(rt, path)),
         Err(cause) => Err(fault_of_system(rt, path, &cause)),
     }
 }
@@ -123,9 +127,11 @@ pub(crate) fn find_or_create<'a>(
 ///
 /// # Errors
 ///
+/// The reason is printed to standard error.
+///
+/// - `NotEmpty` if the file is empty and its log is not.
 /// - `Memory` if out of memory.
-/// - `Store` if the file holds something else or cannot be opened. The reason is printed to
-///   standard error.
+/// - `Store` if the file holds something else or cannot be opened.
 pub(crate) fn connect_to_new<S: Start>(
     rt: &HostRuntime,
     file: &LedgerFile<'_>,
@@ -134,22 +140,28 @@ pub(crate) fn connect_to_new<S: Start>(
     ensures idle { IfOk result (λ connection. connection.in_transaction ≡ false) }
     ensures found { IfOk result (IsFoundIn (image_at S.Start)) }
     ensures plain { IfOk result (IsPlain (image_at S.Start)) }
-    ensures refused { IfErr result IsFileFault }
+    ensures refused { IfErr result (IsUnopenedAs S.row S.Start OpenFault.NotEmpty) }
 {
     match file.fault_of_new(rt) {
-        None => connect(rt, file, start),
+        None => connect(rt, file, OpenFault::NotEmpty, start),
         Some(fault) => Err(fault),
     }
 }
 
-// Creates the file if it is missing, with the mode that the store would give it. The store's own
-// error would not have the system's words.
-fn create_missing(rt: &HostRuntime, path: &str) -> io::Result<()> {
+// Creates the file if it is missing, for its owner alone, and returns whether it did. The store's own
+// error would not have the system's words. The store gives the log the same mode.
+fn create_missing(rt: &HostRuntime, path: &str) -> io::Result<bool> {
+    if is_no_path(path) {
+        return Ok(false);
+    }
+    // The longest name that the store looks up must not be too long.
+    let _len = len_of(rt, format!(in rt.alloc(); "{path}-journal")?.as_str())?;
     let mut options = OpenOptions::new();
-    options.read(true).write(true).create_new(true).mode(0o644);
+    options.read(true).write(true).create_new(true).mode(0o600);
     match options.open(rt, path) {
-        Err(cause) if cause.kind() != ErrorKind::AlreadyExists => Err(cause),
-        _ => Ok(()),
+        Ok(_) => Ok(true),
+        Err(cause) if cause.kind() == ErrorKind::AlreadyExists => Ok(false),
+        Err(cause) => Err(cause),
     }
 }
 
@@ -177,29 +189,53 @@ fn fault_of_absent(rt: &HostRuntime, path: &str, absent: &io::Error) -> OpenFaul
     OpenFault::NotALedger
 }
 
-// Opens a file as a database.
+// Opens a file as a database. `of_emptied` is the fault of a file that is empty beside a log.
 fn connect<S: Start>(
     rt: &HostRuntime,
     file: &LedgerFile<'_>,
+    of_emptied: OpenFault,
     start: S,
 ) -> Result<FileConnection<S>, OpenFault>
     ensures idle { IfOk result (λ connection. connection.in_transaction ≡ false) }
     ensures found { IfOk result (IsFoundIn (image_at S.Start)) }
     ensures plain { IfOk result (IsPlain (image_at S.Start)) }
-    ensures refused { IfErr result IsFileFault }
+    ensures refused { IfErr result (IsUnopenedAs S.row S.Start of_emptied) }
 {
     eprint_size(rt, file.path);
     match open_with_cache(rt, file.path, start) {
         Ok(connection) => Ok(connection),
-        Err((error, files)) => {
+        Err((cause, files)) => {
             // If the files were not returned, another program may have them open.
             if files.is_some() {
-                file.remove_unused_log(rt);
+                file.put_back(rt);
+            } else if !is_busy(&cause) {
+                file.remove_created(rt);
             }
-            eprint_cause(rt, file.path, &error);
-            Err(fault_of_opening(&error))
+            match cause {
+                Unopened::Emptied => {
+                    eprint_emptied(rt, file.path);
+                    Err(of_emptied)
+                }
+                Unopened::Failed(error) => {
+                    eprint_cause(rt, file, &error);
+                    Err(fault_of_opening(&error))
+                }
+            }
         }
     }
+}
+
+// Returns whether another program has the files open.
+fn is_busy(cause: &Unopened) -> bool {
+    matches!(
+        cause,
+        Unopened::Failed(Error::SqliteFailure(ErrorCode::DatabaseBusy))
+    )
+}
+
+// Prints to standard error that the file is empty beside a log that is not.
+fn eprint_emptied(rt: &HostRuntime, path: &str) {
+    let _ = eprintln!(rt; "cannot open {path}: it is empty, and its log {path}-wal is not");
 }
 
 // Prints the size of a file whose opening takes a second or more to standard error: the store scans
@@ -215,16 +251,26 @@ fn eprint_size(rt: &HostRuntime, path: &str) {
 }
 
 // Prints to standard error why a file could not be opened, in the system's words if these say more.
-fn eprint_cause(rt: &HostRuntime, path: &str, error: &Error) {
-    let _ = match cause_of(rt, path) {
+// Of a file that this process created they do not: it may be removed by now.
+fn eprint_cause(rt: &HostRuntime, file: &LedgerFile<'_>, error: &Error) {
+    let path = file.path;
+    let cause = if file.is_created {
+        None
+    } else {
+        cause_of(rt, path)
+    };
+    let _ = match cause {
         Some(cause) => eprintln!(rt; "cannot open {path}: {cause}"),
         None => eprintln!(rt; "cannot open {path}: {error}"),
     };
 }
 
-// Returns the system's error of opening the file again. Creates and removes nothing: the name may
+// Returns the system's error of opening the file again, if its name is that of a file. Creates and removes nothing: the name may
 // have become another process's ledger.
 fn cause_of(rt: &HostRuntime, path: &str) -> Option<io::Error> {
+    if is_no_path(path) {
+        return None;
+    }
     let mut options = OpenOptions::new();
     options.read(true).write(true);
     options.open(rt, path).err()
@@ -240,23 +286,21 @@ pub(crate) fn fault_of_opening(error: &Error) -> OpenFault
     }
 }
 
-/// Closes the files of a refused ledger. They hold what the connection shows.
+/// Closes the files of a refused ledger as they are, without a write. They hold what the connection
+/// shows; its last commits may be in the log alone.
 ///
-/// Returns `None` if they cannot be closed so.
+/// Returns `None` if a fault shut the store.
 pub fn close_refused<D: Disk + Drop>(connection: Connection<FileStore<D>>) -> Option<Files<D>>
     requires idle { connection.in_transaction ≡ false }
-    ensures copied { IfSome result (Copies connection) }
+    ensures of { IfSome result (AreFilesOf connection) }
+    ensures kept { IfSome result (Keeps connection) }
     ensures committed { IsOpen over_files connection → (file_state connection).committed
         ≡ (file_state connection).now }
 {
     // Brings into scope that a connection in no transaction has nothing to commit.
     prove!(connection.is_autocommit());
-    let closed = connection.close_files();
-    match closed {
-        Ok(files) => Some(files),
-        Err((_, store)) => {
-            drop(store.close());
-            None
-        }
-    }
+    let store = connection.into_store();
+    let is_shut = store.is_broken();
+    let files = store.close();
+    if is_shut { None } else { Some(files) }
 }

@@ -1,25 +1,29 @@
-//! The file of a ledger before it is opened as a database: what its first bytes show, and whether a
-//! log is beside it. A file that is no database stays as it is, and no log is created beside it.
+//! The file of a ledger before it is opened as a database: what its first bytes show, and what log is
+//! beside it. A file that is refused stays as it is, with its log, and no log is created beside it.
 
 ghost use Rattle.std.specs.Prelude.{◌≡◌, IfSome};
 ghost use Rattle.s10_host.specs.Files.{IsFileFault, IsAbsenceOr};
 
+use crate::log_before::LogBefore;
 use s10_ledger::OpenFault;
-use std::fs::File;
+use std::fs::{File, OpenOptions};
 use std::io::{ErrorKind, Read};
 use std::{fs, io};
 
 /// The first 16 bytes of every database file.
 const MAGIC: [u8; 16] = *b"SQLite format 3\0";
 
-/// The length in bytes of a log that holds no commits: its header and its mark.
-const EMPTY_LOG: u64 = 41;
+/// The length in bytes of a database without tables.
+const EMPTY_DATABASE: u64 = 4096;
 
 #[derive(Clone, Copy, Debug, PartialEq, Eq)]
 enum FileKind {
+    // It is empty, and so is its log, or there is none.
     Empty,
     Database,
     Other,
+    // A creation that was stopped may have left it, beside a log that holds no commits.
+    Unfinished,
     // It cannot be read, or it has a log that may hold its first pages.
     Unknown,
 }
@@ -29,8 +33,9 @@ enum FileKind {
 pub(crate) struct LedgerFile<'a> {
     pub(crate) path: &'a str,
     kind: FileKind,
-    // The path of the log that an opening creates. `None` if the file does not exist or has a log.
-    missing_log: Option<String>,
+    // The log that an opening writes. `None` if the file does not exist or the log cannot be read.
+    log: Option<LogBefore>,
+    pub(crate) is_created: bool,
 }
 
 impl<'a> LedgerFile<'a> {
@@ -41,28 +46,33 @@ impl<'a> LedgerFile<'a> {
             Err(_) => LedgerFile {
                 path,
                 kind: FileKind::Unknown,
-                missing_log: None,
+                log: None,
+                is_created: false,
             },
+        }
+    }
+
+    /// Looks up what is at a path at which this process has created the file.
+    pub(crate) fn created(rt: &HostRuntime, path: &'a str) -> LedgerFile<'a> {
+        LedgerFile {
+            is_created: true,
+            ..LedgerFile::find(rt, path)
         }
     }
 
     // The log is beside the target of a symbolic link.
     fn look_up(rt: &HostRuntime, path: &'a str) -> io::Result<LedgerFile<'a>> {
         let real = fs::canonicalize(rt, path)?;
-        let log = format!(in rt.alloc(); "{}-wal", real.as_str())?;
-        let log_len = len_of(rt, log.as_str())?;
-        let kind = match file_kind_of(rt, real.as_str(), log_len) {
+        let log = LogBefore::find(rt, format!(in rt.alloc(); "{}-wal", real.as_str())?)?;
+        let kind = match file_kind_of(rt, real.as_str(), &log) {
             Ok(kind) => kind,
             Err(_) => FileKind::Unknown,
-        };
-        let missing_log = match log_len {
-            None => Some(log),
-            Some(_) => None,
         };
         Ok(LedgerFile {
             path,
             kind,
-            missing_log,
+            log: Some(log),
+            is_created: false,
         })
     }
 
@@ -73,7 +83,7 @@ impl<'a> LedgerFile<'a> {
     {
         match self.kind {
             FileKind::Empty => Some(fault_of_empty(rt, self.path)),
-            FileKind::Other => Some(fault_of_not_database(rt, self.path)),
+            FileKind::Other | FileKind::Unfinished => Some(fault_of_not_database(rt, self.path)),
             FileKind::Database | FileKind::Unknown => None,
         }
     }
@@ -85,28 +95,43 @@ impl<'a> LedgerFile<'a> {
     {
         match self.kind {
             FileKind::Other => Some(fault_of_not_database(rt, self.path)),
-            FileKind::Empty | FileKind::Database | FileKind::Unknown => None,
+            FileKind::Empty | FileKind::Database | FileKind::Unfinished | FileKind::Unknown => None,
         }
     }
 
-    /// Removes a log that an opening created and that holds no commits, after the opening was
-    /// refused.
+    /// Puts back what the opening wrote, after it was refused: the log, and a file that was empty. A
+    /// file that this process created is removed. The file must still be locked.
     ///
-    /// Beside such a log, a user who may only read the file could not open it. The log stays if the
-    /// opening has begun to write a database into a file that was empty: without its log that file
-    /// would be no database. The file must still be locked, so that no other program has the log
-    /// open.
-    pub(crate) fn remove_unused_log(&self, rt: &HostRuntime) {
-        let Some(log) = &self.missing_log else {
+    /// A file that was empty stays if it has become longer than a database without tables: then
+    /// another process has created a ledger in it.
+    pub(crate) fn put_back(&self, rt: &HostRuntime) {
+        let Some(log) = &self.log else {
             return;
         };
-        if self.kind == FileKind::Empty && !is_empty(rt, self.path) {
+        if self.kind != FileKind::Empty {
+            log.put_back(rt);
+            self.remove_created(rt);
             return;
         }
-        if let Ok(metadata) = fs::metadata(rt, log.as_str())
-            && metadata.len() <= EMPTY_LOG
-        {
-            let _ = fs::remove_file(rt, log.as_str());
+        if matches!(len_of(rt, self.path), Ok(Some(len)) if len <= EMPTY_DATABASE) {
+            log.clear(rt);
+            self.empty(rt);
+        }
+    }
+
+    // Empties the file, or removes it if this process created it. That ends its lock.
+    fn empty(&self, rt: &HostRuntime) {
+        if self.is_created {
+            let _ = fs::remove_file(rt, self.path);
+        } else if let Ok(file) = OpenOptions::new().write(true).open(rt, self.path) {
+            let _ = file.set_len(0);
+        }
+    }
+
+    /// Removes the file if this process created it and it is still empty.
+    pub(crate) fn remove_created(&self, rt: &HostRuntime) {
+        if self.is_created && is_empty(rt, self.path) {
+            let _ = fs::remove_file(rt, self.path);
         }
     }
 }
@@ -127,16 +152,19 @@ fn fault_of_not_database(rt: &HostRuntime, path: &str) -> OpenFault
     OpenFault::Store
 }
 
-fn file_kind_of(rt: &HostRuntime, path: &str, log_len: Option<u64>) -> io::Result<FileKind> {
+fn file_kind_of(rt: &HostRuntime, path: &str, log: &LogBefore) -> io::Result<FileKind> {
     let metadata = fs::metadata(rt, path)?;
-    let has_log = matches!(log_len, Some(len) if len > 0);
-    if !metadata.is_file() || has_log {
+    if !metadata.is_file() || log.may_hold_commits() {
         return Ok(FileKind::Unknown);
     }
     if metadata.len() == 0 {
-        return Ok(FileKind::Empty);
+        return Ok(if log.has_bytes() {
+            FileKind::Unknown
+        } else {
+            FileKind::Empty
+        });
     }
-    read_file_kind(rt, path)
+    read_file_kind(rt, path, log.has_bytes())
 }
 
 // Returns whether the file exists and is empty.
@@ -153,11 +181,17 @@ pub(crate) fn len_of(rt: &HostRuntime, path: &str) -> io::Result<Option<u64>> {
     }
 }
 
-fn read_file_kind(rt: &HostRuntime, path: &str) -> io::Result<FileKind> {
+// The first byte of a database is written last.
+fn read_file_kind(rt: &HostRuntime, path: &str, has_log: bool) -> io::Result<FileKind> {
     let mut file = File::open(rt, path)?;
-    let mut front = [0u8; 16];
-    match file.read_exact(&mut front) {
-        Ok(()) if front == MAGIC => Ok(FileKind::Database),
+    let mut first = [0u8; 1];
+    file.read_exact(&mut first)?;
+    if first[0] == 0 && has_log {
+        return Ok(FileKind::Unfinished);
+    }
+    let mut others = [0u8; 15];
+    match file.read_exact(&mut others) {
+        Ok(()) if first[0] == MAGIC[0] && others[..] == MAGIC[1..] => Ok(FileKind::Database),
         Ok(()) => Ok(FileKind::Other),
         Err(error) if error.kind() == ErrorKind::UnexpectedEof => Ok(FileKind::Other),
         Err(error) => Err(error),

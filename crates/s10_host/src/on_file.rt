@@ -29,8 +29,8 @@ use std::io::Write;
 /// Runs the job over the ledger of a connection, and closes the ledger whether or not the job
 /// succeeded.
 ///
-/// If the file was refused, removes the log that opening it created. An audit leaves its files as
-/// they are: their last commits may be in the log alone.
+/// If the file was refused, puts back what opening it wrote. A refused ledger and an audited one are
+/// closed as they are: their last commits may be in the log alone.
 pub(crate) fn run_on_file<'a, F: Disk + Drop, D: Days, E: Ending, W: Write>(
     rt: &HostRuntime,
     file: &LedgerFile<'_>,
@@ -58,8 +58,10 @@ pub(crate) fn run_on_file<'a, F: Disk + Drop, D: Days, E: Ending, W: Write>(
         Err(refusal) => {
             let Refused { fault, connection } = refusal;
             progress.eprint_not_created(&job, fault);
-            file.remove_unused_log(rt);
             let files = close_refused(connection);
+            if files.is_some() {
+                file.put_back(rt);
+            }
             return JobEnd {
                 done: fail_by_ledger(fault, out),
                 resources: resources_of(files, None),
@@ -80,7 +82,7 @@ pub(crate) fn run_on_file<'a, F: Disk + Drop, D: Days, E: Ending, W: Write>(
             }
         }
         Worked::Audited { done, store } => {
-            remove_audit_log(rt, file, &done);
+            put_audited_back(rt, file, &done);
             JobEnd {
                 done,
                 resources: JobResources::Files(store.close()),
@@ -136,14 +138,13 @@ fn fail_by_closing<W: Write>(
     fail_by_ledger(fault, out)
 }
 
-// Removes the log that opening the file created, if the audit refused the file. The file is still
-// locked.
-fn remove_audit_log(
+// Puts back what opening the file wrote, if the audit refused it. The file is still locked.
+fn put_audited_back(
     rt: &HostRuntime,
     file: &LedgerFile<'_>,
     audited: &Result<JobStatus, WriteFault>,
 ) {
     if let Ok(JobStatus::Failed) = audited {
-        file.remove_unused_log(rt);
+        file.put_back(rt);
     }
 }

@@ -1,5 +1,5 @@
-//! Jobs over a ledger that they refuse: the file keeps its bytes, and a log beside a file that is
-//! no database keeps its own.
+//! Jobs over a ledger that they refuse: the file and its log keep their bytes, also if calls are in
+//! the log alone, if a commit was stopped, and if the file was emptied.
 
 use crate::host::jobs::ends_with;
 use s10_jobs::JobStatus;
@@ -54,6 +54,37 @@ fn change(rt: &HostRuntime, statements: &[&str]) -> bool {
         Ok(connection) => is_changed(connection, statements),
         Err(_) => false,
     }
+}
+
+/// Executes the statements and closes nothing, as a kill does: they are in the log alone. Returns
+/// whether that succeeds.
+fn is_logged<D: Disk + Drop>(
+    mut connection: Connection<FileStore<D>>,
+    statements: &[&str],
+) -> bool {
+    let mut all = true;
+    for statement in statements {
+        all = all && connection.execute(statement, &[]).is_ok();
+    }
+    all
+}
+
+/// Does the same in the file's log.
+fn log_change(rt: &HostRuntime, statements: &[&str]) -> bool {
+    match Connection::open_from(rt, FILE, false, Unknown) {
+        Ok(connection) => is_logged(connection, statements),
+        Err(_) => false,
+    }
+}
+
+/// Creates an empty folder, and in it a ledger of two calls with one change more, in its log alone.
+/// Returns whether that succeeds.
+fn make_logged(rt: &HostRuntime, statement: &str) -> bool {
+    let _ = fs::remove_dir_all(rt, FOLDER);
+    fs::create_dir(rt, FOLDER).is_ok()
+        && ends_with(rt, CREATE, JobStatus::Done, "created\n")
+        && log_change(rt, CALLS)
+        && log_change(rt, &[statement])
 }
 
 /// Creates an empty folder, and in it a ledger of two calls with one change more. Returns whether
@@ -157,5 +188,74 @@ fn keeps_its_log(rt: &HostRuntime, text: &str, log: &str) -> bool {
 fn a_log_beside_a_refused_file_keeps_its_bytes(rt: HostRuntime) {
     let text = "a text, and longer than sixteen bytes\n";
     assert!(rt; keeps_its_log(&rt, text, "the log of another program\n"));
+    let _ = fs::remove_dir_all(&rt, FOLDER);
+}
+
+const NOT_EMPTY: &str = "ledger not-empty\n";
+
+/// Returns whether all jobs are refused, and the file and its log keep their bytes.
+fn keep_both(rt: &HostRuntime, line: &str) -> bool {
+    match (fs::read(rt, FILE), fs::read(rt, LOG)) {
+        (Ok(file), Ok(log)) => {
+            are_refused(rt, line, NOT_EMPTY)
+                && has_bytes(rt, FILE, file.as_slice())
+                && has_bytes(rt, LOG, log.as_slice())
+        }
+        _ => false,
+    }
+}
+
+#[test]
+fn a_refused_ledger_keeps_calls_that_are_in_its_log_alone(rt: HostRuntime) {
+    for (statement, line) in CHANGES {
+        assert!(rt;
+            holds(
+                &rt,
+                statement,
+                make_logged(&rt, statement) && keep_both(&rt, line)
+            )
+        );
+    }
+    let _ = fs::remove_dir_all(&rt, FOLDER);
+}
+
+/// The length in bytes of a log before its first frame.
+const LOG_HEADER: usize = 32;
+
+/// The length in bytes of a frame: a header and a page.
+const FRAME: usize = 24 + 4096;
+
+/// Appends the first bytes of one more frame to the log, which have the first byte of its salt: the
+/// store clears one of them as it opens. Returns whether that succeeds.
+fn begin_commit(rt: &HostRuntime) -> bool {
+    let Ok(mut log) = fs::read(rt, LOG) else {
+        return false;
+    };
+    let Some(salt) = log.get(16).copied() else {
+        return false;
+    };
+    log.truncate(LOG_HEADER + log.len().saturating_sub(LOG_HEADER) / FRAME * FRAME);
+    log.extend_from_slice(&[salt; 24]).is_ok() && fs::write(rt, LOG, log.as_slice()).is_ok()
+}
+
+#[test]
+fn a_refused_ledger_keeps_a_commit_that_was_stopped(rt: HostRuntime) {
+    for (statement, line) in CHANGES {
+        let made = make_logged(&rt, statement) && begin_commit(&rt);
+        assert!(rt; holds(&rt, statement, made && keep_both(&rt, line)));
+    }
+    let _ = fs::remove_dir_all(&rt, FOLDER);
+}
+
+/// Empties the file, and returns whether that succeeds.
+fn empty_file(rt: &HostRuntime) -> bool {
+    fs::write(rt, FILE, "").is_ok()
+}
+
+#[test]
+fn an_emptied_file_and_its_log_keep_their_bytes(rt: HostRuntime) {
+    let statement = "UPDATE head SET schema = 1";
+    assert!(rt; make_logged(&rt, statement) && empty_file(&rt));
+    assert!(rt; keep_both(&rt, "ledger not-a-ledger\n"));
     let _ = fs::remove_dir_all(&rt, FOLDER);
 }

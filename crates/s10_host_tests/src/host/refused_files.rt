@@ -4,6 +4,7 @@ use crate::host::jobs::ends_with;
 use s10_jobs::JobStatus;
 use s10_test_help::expect::holds;
 use std::fs;
+use std::os::unix::fs::PermissionsExt;
 
 /// A folder that is created for each case and removed after it.
 const FOLDER: &str = "refused_files_test";
@@ -89,4 +90,39 @@ fn a_file_that_is_no_ledger_stays_unchanged(rt: HostRuntime) {
     for (bytes, line) in OTHERS {
         assert!(rt; holds(&rt, bytes, stays(&rt, bytes, line)));
     }
+}
+
+/// The command line of a `create` at a name that is no file's, and at one to which the system would
+/// not let the store add anything.
+const NO_NAMES: &[&str] = &[
+    "s10 create --ledger :memory: --interval 30 --limit 100",
+    "s10 create --ledger file:ledger --interval 30 --limit 100",
+    "s10 create --ledger refused_files_test/a_name_of_two_hundred_and_fifty_bytes_aaaaaaaaaaaaaaaaaaaaaaaaaaaaaaaaaaaaaaaaaaaaaaaaaaaaaaaaaaaaaaaaaaaaaaaaaaaaaaaaaaaaaaaaaaaaaaaaaaaaaaaaaaaaaaaaaaaaaaaaaaaaaaaaaaaaaaaaaaaaaaaaaaaaaaaaaaaaaaaaaaaaaaaaaaaaaaaaaaaaaaaaaaaaaaaaaaaaaaaaaaaaaaaaaaaa --interval 30 --limit 100",
+];
+
+#[test]
+fn a_refused_creation_leaves_no_file(rt: HostRuntime) {
+    for job in NO_NAMES {
+        let job: &str = job;
+        assert!(rt; holds(&rt, job, stays_away(&rt, &[job], "ledger store\n")));
+    }
+    assert!(rt; !matches!(fs::exists(&rt, ":memory:"), Ok(true)));
+    assert!(rt; !matches!(fs::exists(&rt, "file:ledger"), Ok(true)));
+}
+
+const CREATE: &str = "s10 create --ledger refused_files_test/ledger --interval 30 --limit 100";
+
+/// Returns whether no other user may read or write a file.
+fn is_own(rt: &HostRuntime, path: &str) -> bool {
+    match fs::metadata(rt, path) {
+        Ok(metadata) => metadata.permissions().mode() & 0o177 == 0,
+        Err(_) => false,
+    }
+}
+
+#[test]
+fn a_new_ledger_is_its_owners_alone(rt: HostRuntime) {
+    assert!(rt; make_folder(&rt) && ends_with(&rt, CREATE, JobStatus::Done, "created\n"));
+    assert!(rt; is_own(&rt, FILE) && is_own(&rt, "refused_files_test/ledger-wal"));
+    let _ = fs::remove_dir_all(&rt, FOLDER);
 }

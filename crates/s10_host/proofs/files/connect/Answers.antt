@@ -5,6 +5,3 @@ returns-in-Ok-clause-found g c = c.in-Ok.ensures.found
 
 pub returns-in-Ok-clause-plain : goal.returns-in-Ok-clause-plain
 returns-in-Ok-clause-plain g c = c.in-Ok.ensures.plain
-
-pub returns-after-is_some-clause-refused : goal.returns-after-is_some-clause-refused
-returns-after-is_some-clause-refused g c = c.fault_of_opening.ensures

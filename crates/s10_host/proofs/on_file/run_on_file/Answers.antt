@@ -65,7 +65,7 @@ returns-in-Err-clause-worked g c other =
     c.args.connection c.in-Err.refusal.connection (g.W.Write.contents c.args.out.now)
     (g.W.Write.contents c.run_over_store.new.out) (g.W.Write.contents c.fail_by_ledger.new.out)
     c.in-Err.refusal.fault c.fail_by_ledger.result c.close_refused-files.result refusal silent
-    c.fail_by_ledger.ensures c.close_refused-files.ensures.copied
+    c.fail_by_ledger.ensures c.close_refused-files.ensures.of c.close_refused-files.ensures.kept
     c.close_refused-files.ensures.committed
     )
 
