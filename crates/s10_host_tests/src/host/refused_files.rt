@@ -103,8 +103,7 @@ const NO_NAMES: &[&str] = &[
 #[test]
 fn a_refused_creation_leaves_no_file(rt: HostRuntime) {
     for job in NO_NAMES {
-        let job: &str = job;
-        assert!(rt; holds(&rt, job, stays_away(&rt, &[job], "ledger store\n")));
+        assert!(rt; holds(&rt, job, stays_away(&rt, &[*job], "ledger store\n")));
     }
     assert!(rt; !matches!(fs::exists(&rt, ":memory:"), Ok(true)));
     assert!(rt; !matches!(fs::exists(&rt, "file:ledger"), Ok(true)));
