@@ -145,7 +145,7 @@ run_checks() {
     check ledger_page 600 'program python3' env S10="$s10" python3 "$contrib/test_ledger_page.py"
     check dissector 900 'program python3 tshark' env S10="$s10" python3 "$contrib/test_dissector.py"
     check pages 1800 'program python3' python3 "$checks/documents.py" "$s10"
-    check damaged 1800 'program python3' python3 "$checks/damaged.py" "$s10" 400
+    check damaged 1800 'program python3' python3 "$checks/damaged.py" "$s10" 2000
     check killed_server 900 program sh "$checks/killed_server.sh" "$s10"
     check killed_server_64 900 program sh "$checks/killed_server.sh" "$s10" 64
     check until 300 program sh "$checks/until.sh" "$s10"
