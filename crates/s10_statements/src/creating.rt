@@ -110,6 +110,7 @@ pub fn create_tables<S: Alter>(conn: &mut Connection<S>, settings: Settings) -> 
 pub fn refusal_of<S: Alter>(conn: &Connection<S>) -> Option<OpenFault>
     ensures refusal { IfSome result (IsCreateRefusal (state S.Store conn.now).now.schema) }
     ensures none { result ≡ None → (state S.Store conn.now).now.schema ≡ no_schema }
+    ensures empty { (state S.Store conn.now).now.schema ≡ no_schema → result ≡ None }
     ensures fresh { result ≡ None → ¬ HasOneOfTheNames (state S.Store conn.now).now.schema }
     ensures fault { IfSome result (λ f. (f ≡ OpenFault.NotEmpty) ⊎ (f ≡ OpenFault.Store)) }
 {
