@@ -59,10 +59,15 @@ pub(crate) fn audit_ledger<S: Alter, K: Observer>(
             } = book.close();
             (Ok(count), connection)
         }
-        Err(Refused { fault, connection }) => {
+        Err(
+            Refused {
+                refusal,
+                connection,
+            },
+        ) => {
             // Brings into scope that a connection in no transaction has nothing to commit.
             prove!(connection.is_autocommit());
-            (Err(fault), connection)
+            (Err(refusal.fault), connection)
         }
     }
 }

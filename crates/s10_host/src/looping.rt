@@ -98,7 +98,7 @@ pub fn run_loop<R: Net + Eprint + AllocGlobal, W: Write>(
     };
     let book = match SqlBook::in_memory(rt.alloc(), HashSeed::fixed(), settings) {
         Ok(book) => book,
-        Err(fault) => return (fail_by_ledger(fault, out), None),
+        Err(refusal) => return (fail_by_ledger(refusal.fault, out), None),
     };
     let (asked, book, far, near) = loop_over(book, far, near, day, out);
     let ClosedBook {

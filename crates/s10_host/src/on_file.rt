@@ -55,15 +55,18 @@ pub(crate) fn run_on_file<'a, F: Disk + Drop, D: Days, E: Ending, W: Write>(
     let mut progress = Progress::new(rt, file.path);
     let worked = match run_over_store(rt, seed, connection, job, days, ends, &mut progress, out) {
         Ok(worked) => worked,
-        Err(refusal) => {
-            let Refused { fault, connection } = refusal;
-            progress.eprint_not_created(&job, fault);
+        Err(refused) => {
+            let Refused {
+                refusal,
+                connection,
+            } = refused;
+            progress.eprint_not_created(&job, &refusal);
             let files = close_refused(connection);
             if files.is_some() {
                 file.put_back(rt);
             }
             return JobEnd {
-                done: fail_by_ledger(fault, out),
+                done: fail_by_ledger(refusal.fault, out),
                 resources: resources_of(files, None),
             };
         }

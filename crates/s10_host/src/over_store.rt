@@ -47,7 +47,7 @@ where
         connection
         (W.contents out.old) (W.contents out.new) done link ledger.connection ledger.committed) }
     ensures refused { IfErr result (λ r. (job ≢ LedgerJob.Audit)
-        × IsRefusedAs A.Store job connection r.connection r.fault
+        × IsRefusedAs A.Store job connection r.connection r.refusal.fault
         × (W.contents out.new ≡ W.contents out.old)) }
     ensures audited { IfOk result (λ w. (done store : _) → w ≡ Worked.Audited done store
         → (job ≡ LedgerJob.Audit) × (left : _) × (found : Result ℕ OpenFault)

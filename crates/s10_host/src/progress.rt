@@ -1,7 +1,7 @@
 //! Prints the progress of the creation or opening of a ledger in a file to standard error.
 
 use crate::ledger_job::LedgerJob;
-use s10_ledger::{Observer, OpenFault};
+use s10_ledger::{Observer, OpenFault, Refusal};
 use sqlite::Error;
 use std::time::{Duration, Instant};
 
@@ -18,26 +18,19 @@ pub(crate) struct Progress<'a> {
     path: &'a str,
     // When it printed progress last.
     spoke: Option<Instant>,
-    // Whether a statement failed.
-    failed: bool,
 }
 
 impl<'a> Progress<'a> {
     pub(crate) fn new(rt: &'a HostRuntime, path: &'a str) -> Progress<'a> {
         let spoke = Instant::now(rt).ok();
-        Progress {
-            rt,
-            path,
-            spoke,
-            failed: false,
-        }
+        Progress { rt, path, spoke }
     }
 
     // Prints why no ledger was created, if one was asked for and no statement failed.
-    pub(crate) fn eprint_not_created(&self, job: &LedgerJob, fault: OpenFault) {
+    pub(crate) fn eprint_not_created(&self, job: &LedgerJob, refusal: &Refusal) {
         if let LedgerJob::Create(_) = job
-            && fault == OpenFault::Store
-            && !self.failed
+            && refusal.fault == OpenFault::Store
+            && refusal.cause.is_none()
         {
             let _ = eprintln!(self.rt;
                 "cannot create a ledger in {}: it has tables of its own",
@@ -67,7 +60,6 @@ impl Observer for Progress<'_> {
     }
 
     fn statement_failed(&mut self, error: &Error) {
-        self.failed = true;
         let _ = eprintln!(self.rt; "cannot use {}: {error}", self.path);
     }
 }

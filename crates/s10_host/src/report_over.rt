@@ -33,6 +33,11 @@ pub(crate) fn report_over<S: Alter + Drop, K: Observer, W: Write>(
             } = book.close();
             (done, connection)
         }
-        Err(Refused { fault, connection }) => (fail_by_ledger(fault, out), connection),
+        Err(
+            Refused {
+                refusal,
+                connection,
+            },
+        ) => (fail_by_ledger(refusal.fault, out), connection),
     }
 }

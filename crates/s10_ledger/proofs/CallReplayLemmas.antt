@@ -9,12 +9,13 @@ use Rattle.s10_rows.specs.declared.head_row.HeadRow.{HeadRow}
 use Rattle.s10_rows.specs.Tables.{Tables}
 use Rattle.s10_replay.specs.CheckedTables.{IsHead, IsRefusal}
 use Rattle.s10_replay.specs.RightRows.{IsRightRow, AreRight, entry_of}
-use Rattle.s10_replay.specs.FaultNames.{IsRowFault}
+use Rattle.s10_replay.specs.FaultNames.{IsRowFault, IsHeadFault}
 use Rattle.s10_replay.proofs.Replayed.{replayed_none, replayed_more, refused_row}
 use Rattle.s10_index.specs.declared.indexed_book.IndexedBook.{IndexedBook}
 use Rattle.s10_ledger.specs.declared.opening.call_replay.CallReplay.{CallReplay}
 use Rattle.s10_ledger.specs.CallReplay.{AreReplayed, HasTakenCalls}
 use Rattle.s10_ledger.specs.Replaying.{IsReplayFault, IsReplayOf}
+use Rattle.s10_ledger.proofs.ReplayFaults.{no_head_store, no_replay_store}
 
 -- A replay has a book or is refused.
 pub not_refused : (made : Result IndexedBook OpenFault) (book : IndexedBook) (fault : OpenFault)
@@ -88,8 +89,9 @@ pub replay_of : (heads : List HeadRow) (calls : List StoredCall) (start now : Ca
     → IfOk start.made (λ book. IsHead heads (pos 1) book.settings
     × (book.index.entries.items ≡ []))
     → ((tables : Tables) → tables.heads ≡ heads → IfErr start.made (IsRefusal tables))
-    → HasTakenCalls start calls now → IsReplayOf heads calls now.made
-replay_of heads calls start now ok err taken = go start.made refl ok err
+    → IfErr start.made IsHeadFault → HasTakenCalls start calls now
+    → IsReplayOf heads calls now.made
+replay_of heads calls start now ok err named taken = go start.made refl ok err named
   where
     right : (t : Terms) → IsHead heads (pos 1) t → (made : Result IndexedBook OpenFault)
         → AreReplayed t calls made → IsReplayOf heads calls made
@@ -100,28 +102,32 @@ replay_of heads calls start now ok err taken = go start.made refl ok err
         kept = all.ok.1.history;
       };
       err = λ tables same rows. tt;
+      no_store = no_replay_store (Ok book) tt;
     }
     right t head (Err fault) all = record {
       ok = tt;
       err = λ tables same rows. all.err.1 tables [] (rows ∙ sym (append-nil calls))
           (subst (λ l. IsHead l (pos 1) t) (sym same) head);
+      no_store = no_replay_store (Err fault) all.err.0;
     }
 
     wrong : (fault : OpenFault) → ((tables : Tables) → tables.heads ≡ heads → IsRefusal tables fault)
-        → (made : Result IndexedBook OpenFault) → made ≡ Err fault → IsReplayOf heads calls made
-    wrong fault refused (Ok book) is = absurd cc
-    wrong fault refused (Err other) is = record {
+        → IsHeadFault fault → (made : Result IndexedBook OpenFault) → made ≡ Err fault
+        → IsReplayOf heads calls made
+    wrong fault refused named (Ok book) is = absurd cc
+    wrong fault refused named (Err other) is = record {
       ok = tt;
       err = λ tables same rows. let e : other ≡ fault = cc in rw e (refused tables same);
+      no_store = let e : other ≡ fault = cc in rw e (no_head_store (Err fault) named);
     }
 
     go : (made : Result IndexedBook OpenFault) → start.made ≡ made
         → IfOk made (λ book. IsHead heads (pos 1) book.settings × (book.index.entries.items ≡ []))
         → ((tables : Tables) → tables.heads ≡ heads → IfErr made (IsRefusal tables))
-        → IsReplayOf heads calls now.made
-    go (Ok book) is first none = right book.settings first.0 now.made (taken.replayed book is
+        → IfErr made IsHeadFault → IsReplayOf heads calls now.made
+    go (Ok book) is first none named = right book.settings first.0 now.made (taken.replayed book is
         (subst (λ m. AreReplayed book.settings [] m) (sym is) (record {
           ok = (refl, replayed_none book.settings book.index.entries.items first.1);
           err = tt;
         })))
-    go (Err fault) is first none = wrong fault none now.made (taken.refused fault is)
+    go (Err fault) is first none named = wrong fault none named now.made (taken.refused fault is)

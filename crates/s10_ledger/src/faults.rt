@@ -1,9 +1,8 @@
 //! The fault of a book, or of an opening, that an error of a statement becomes.
 
-ghost use Rattle.std.specs.Prelude.{◌≡◌, ◌≢◌, ◌↔◌, ◌⊎◌, Some};
+ghost use Rattle.std.specs.Prelude.{◌≡◌, ◌≢◌, ◌↔◌, Some};
 ghost use Rattle.s10_book.specs.declared.book_fault.BookFault.TheVariants.{Full};
-ghost use Rattle.s10_rows.specs.Tables.{Tables};
-ghost use Rattle.s10_replay.specs.CheckedTables.{IsRefusal};
+ghost use Rattle.s10_ledger.specs.Faults.{IsFaultOf};
 
 use s10_book::BookFault;
 use s10_replay::fault_of_book;
@@ -35,10 +34,7 @@ pub(crate) fn keep_failure(last_failure: &mut Option<Error>, error: Error) -> Bo
 
 // Returns the fault of the opening, for an error of a statement that should succeed.
 pub(crate) fn opening_fault(error: Error) -> OpenFault
-    ensures memory { (result ≡ OpenFault.Memory)
-        ↔ (error ≡ Error.SqliteFailure ErrorCode.OutOfMemory) }
-    ensures fault { (result ≡ OpenFault.Memory) ⊎ (result ≡ OpenFault.Store) }
-    ensures refusal { (tables : Tables) → IsRefusal tables result }
+    ensures { IsFaultOf error result }
 {
     fault_of_book(fault_of(error))
 }

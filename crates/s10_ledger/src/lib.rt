@@ -7,10 +7,12 @@ mod faults;
 mod lookups;
 mod opening;
 mod pending;
+mod refusal;
 mod refused;
 mod sql_book;
 
 pub use closed_book::ClosedBook;
+pub use refusal::Refusal;
 pub use refused::Refused;
 pub use s10_ranges::HashSeed;
 pub use s10_rows::OpenFault;

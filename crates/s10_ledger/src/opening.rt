@@ -5,13 +5,14 @@
 //! refuses the ledger if one of them is wrong (`verdicts`), and completes the tables of an earlier
 //! build (`completing`).
 
-ghost use Rattle.std.specs.Prelude.{◌≡◌, length, IfOk, IfErr, OnOk, OnErr, IsTrue};
+ghost use Rattle.std.specs.Prelude.{◌≡◌, ◌≢◌, None, length, IfOk, IfErr, IfSome, OnOk, OnErr, IsTrue};
 ghost use Rattle.s10_history.specs.History.{day_of};
 ghost use Rattle.sqlite.specs.Held.{state};
 ghost use Rattle.sqlite.specs.State.{HasCleanDisk};
 ghost use Rattle.s10_schema.specs.Schema.{IsClosedSchema};
 ghost use Rattle.s10_statements.specs.ConnectionState.{IsQuiescent, WasSound, AddsNoCrashState};
 ghost use Rattle.s10_statements.specs.Statements.{LeavesTables};
+ghost use Rattle.s10_ledger.specs.Faults.{IsFaultOf};
 ghost use Rattle.s10_ledger.specs.TableLayout.{IsOfTableLayout};
 ghost use Rattle.s10_ledger.specs.AllRows.{IsFound};
 ghost use Rattle.s10_ledger.specs.Ledger.{IsLedger, IsAnyLedger, IsIndexed, history_in};
@@ -26,10 +27,10 @@ mod row_match;
 mod table_layout;
 mod verdicts;
 
-use crate::faults::opening_fault;
 use crate::opening::completing::complete;
 use crate::opening::reading::read_tables;
 use crate::opening::table_layout::{TableLayout, table_layout_of};
+use crate::refusal::Refusal;
 use crate::refused::Refused;
 use crate::sql_book::SqlBook;
 use s10_book::Book;
@@ -48,7 +49,7 @@ fn replay_tables<S: Alter, W: Observer>(
     conn: &mut Connection<S>,
     form: TableLayout,
     observer: &mut W,
-) -> Result<IndexedBook, OpenFault>
+) -> Result<IndexedBook, Refusal>
     requires settled { IsQuiescent S.Store conn.old }
     requires form { IsOfTableLayout form (state S.Store conn.old).now.schema }
     ensures spares { AddsNoCrashState S.Store conn.old conn.new }
@@ -59,16 +60,14 @@ fn replay_tables<S: Alter, W: Observer>(
         → IfOk result (IsFound form (state S.Store conn.old).now) }
     ensures refused { HasCleanDisk (state S.Store conn.new)
         → IsTrue (state S.Store conn.new).is_open
-        → IfErr result (IsOpeningRefusal (state S.Store conn.old).now) }
+        → IfErr result (λ r. IsOpeningRefusal (state S.Store conn.old).now r.fault) }
+    ensures cause { IfErr result (λ r. IfSome r.cause (λ error. IsFaultOf error r.fault)) }
+    ensures no_cause { HasCleanDisk (state S.Store conn.new)
+        → IsTrue (state S.Store conn.new).is_open
+        → IfErr result (λ r. r.cause ≡ None → r.fault ≢ OpenFault.Store) }
 {
-    let (book, verdicts) = match read_tables(alloc, seed, conn, form, observer) {
-        Ok(read) => read,
-        Err(error) => {
-            observer.statement_failed(&error);
-            return Err(opening_fault(error));
-        }
-    };
-    let book = book?;
+    let (made, verdicts) = read_tables(alloc, seed, conn, form, observer)?;
+    let book = made?;
     verdicts.check()?;
     Ok(book)
 }
@@ -79,7 +78,7 @@ fn ledger_in<S: Alter, W: Observer>(
     seed: HashSeed,
     conn: &mut Connection<S>,
     observer: &mut W,
-) -> Result<IndexedBook, OpenFault>
+) -> Result<IndexedBook, Refusal>
     requires settled { IsQuiescent S.Store conn.old }
     ensures settled { IsQuiescent S.Store conn.new }
     ensures was { WasSound S.Store conn.old conn.new }
@@ -104,26 +103,31 @@ fn ledger_in<S: Alter, W: Observer>(
     ensures crash { MayComplete S.Store conn.old conn.new }
     ensures refused { HasCleanDisk (state S.Store conn.new)
         → IsTrue (state S.Store conn.new).is_open
-        → IfErr result (IsOpeningRefusal (state S.Store conn.old).now) }
+        → IfErr result (λ r. IsOpeningRefusal (state S.Store conn.old).now r.fault) }
+    ensures cause { IfErr result (λ r. IfSome r.cause (λ error. IsFaultOf error r.fault)) }
+    ensures no_cause { HasCleanDisk (state S.Store conn.new)
+        → IsTrue (state S.Store conn.new).is_open
+        → IfErr result (λ r. r.cause ≡ None → r.fault ≢ OpenFault.Store) }
     ensures no_tables { ¬ HasSomeTableLayout (state S.Store conn.old).now.schema
-        → IfErr result (λ f. f ≡ OpenFault.NotALedger) }
+        → IfErr result (λ r. r.fault ≡ OpenFault.NotALedger) }
 {
     let Some(form) = table_layout_of(conn.schema()) else {
-        return Err(OpenFault::NotALedger);
+        return Err(Refusal::from(OpenFault::NotALedger));
     };
     let book = replay_tables(alloc, seed, conn, form, observer)?;
-    complete(conn, form, observer)?;
+    complete(conn, form)?;
     Ok(book)
 }
 
 impl<S: Alter> SqlBook<S> {
-    ghost use Rattle.std.specs.Prelude.{◌≡◌, ◌⊎◌, ℕ, [], IfOk, IfErr, IsTrue, false};
+    ghost use Rattle.std.specs.Prelude.{◌≡◌, ◌≢◌, ◌⊎◌, ℕ, [], None, IfOk, IfErr, IfSome, IsTrue, false};
     ghost use Rattle.sqlite.specs.Held.{state};
     ghost use Rattle.sqlite.specs.State.{HasCleanDisk};
     ghost use Rattle.s10_history.specs.Settings.{Terms, AreTerms};
     ghost use Rattle.s10_book.specs.BookFault.{no_faults};
     ghost use Rattle.s10_statements.specs.ConnectionState.{WasSound};
     ghost use Rattle.s10_schema.specs.Schema.{IsClosedSchema};
+    ghost use Rattle.s10_ledger.specs.Faults.{IsFaultOf};
     ghost use Rattle.s10_ledger.specs.Ledger.{IsAnyLedger, IsHonest, history_in, history_of};
     ghost use Rattle.s10_ledger.specs.Ledger.{committed_of, MayComplete};
     ghost use Rattle.s10_ledger.specs.Refusals.{IsOpeningRefusal, HasSomeTableLayout};
@@ -143,10 +147,10 @@ impl<S: Alter> SqlBook<S> {
     /// - `Damaged` with the arrival of the first wrong call, or with 0 if all calls are right and a
     ///   derived row is wrong.
     /// - `Memory` if out of memory.
-    /// - `Store` if a statement fails.
+    /// - `Store` if a statement fails for another reason.
     ///
-    /// A refusal returns the connection. Its tables are as before, if its disk is clean and it is
-    /// open.
+    /// The cause is the error of a statement that failed. A refusal returns the connection. Its
+    /// tables are as before, if its disk is clean and it is open.
     pub fn open<W: Observer>(
         alloc: Global,
         seed: HashSeed,
@@ -181,16 +185,21 @@ impl<S: Alter> SqlBook<S> {
         ensures crash_refused { IfErr result (λ r. MayComplete S.Store conn r.connection) }
         ensures refused { IfErr result (λ r. HasCleanDisk (state S.Store r.connection)
             → IsTrue (state S.Store r.connection).is_open
-            → IsOpeningRefusal (state S.Store conn).now r.fault) }
+            → IsOpeningRefusal (state S.Store conn).now r.refusal.fault) }
+        ensures cause { IfErr result (λ r. IfSome r.refusal.cause (λ error. IsFaultOf error
+            r.refusal.fault)) }
+        ensures no_cause { IfErr result (λ r. HasCleanDisk (state S.Store r.connection)
+            → IsTrue (state S.Store r.connection).is_open → r.refusal.cause ≡ None
+            → r.refusal.fault ≢ OpenFault.Store) }
         ensures kept { IfErr result (λ r. HasCleanDisk (state S.Store r.connection)
             → IsTrue (state S.Store r.connection).is_open → (state S.Store r.connection).now
             ≡ (state S.Store conn).now) }
         ensures accepted { IfErr result (λ r. HasCleanDisk (state S.Store r.connection)
             → IsTrue (state S.Store r.connection).is_open
             → (t : Terms) (len day : ℕ) → AreTerms t → IsAnyLedger (state S.Store conn).now t len
-            day → (r.fault ≡ OpenFault.Memory) ⊎ (r.fault ≡ OpenFault.Store)) }
+            day → (r.refusal.fault ≡ OpenFault.Memory) ⊎ (r.refusal.fault ≡ OpenFault.Store)) }
         ensures no_tables { ¬ HasSomeTableLayout (state S.Store conn).now.schema
-            → IfErr result (λ r. r.fault ≡ OpenFault.NotALedger) }
+            → IfErr result (λ r. r.refusal.fault ≡ OpenFault.NotALedger) }
     {
         // Brings into scope that a connection in no transaction has nothing to commit.
         prove!(conn.is_autocommit());
@@ -199,10 +208,7 @@ impl<S: Alter> SqlBook<S> {
                 let settings = book.settings();
                 Ok(SqlBook::over(alloc, conn, settings, book.into_index()))
             }
-            Err(fault) => Err(Refused {
-                fault,
-                connection: conn,
-            }),
+            Err(refusal) => Err(Refused::new(refusal, conn, observer)),
         }
     }
 }

@@ -7,9 +7,9 @@ ghost use Rattle.sqlite.specs.Held.{state};
 ghost use Rattle.s10_ledger.specs.Ledger.{history_in, IsHonest};
 
 use crate::closed_book::ClosedBook;
-use crate::faults::opening_fault;
 use crate::lookups::{ask, usage_in};
 use crate::pending::{append_pending, commit_calls, commit_first, halved, is_pending, keep_call};
+use crate::refusal::Refusal;
 use crate::refused::Refused;
 use s10_book::{Book, BookFault, Faults, GroupCommit, LastFailure, MAX_BATCH};
 use s10_core::Id;
@@ -45,8 +45,6 @@ pub struct SqlBook<S: Alter> {
     answered: bool,
     // Why a statement failed last, until a commit succeeds.
     last_failure: Option<Error>,
-    // Whether an append could not commit the pending calls since the last `commit`.
-    has_refused: bool,
 }
 
 impl<S: Alter> Model for SqlBook<S> {
@@ -74,11 +72,12 @@ impl<S: Alter> Model for SqlBook<S> {
 
 impl<S: Alter> SqlBook<S> {
     ghost use Rattle.std.specs.Prelude.{◌≡◌, ◌≤◌, IfOk, IfErr, OnOk, OnErr, IsTrue, [], length};
-    ghost use Rattle.std.specs.Prelude.{false};
+    ghost use Rattle.std.specs.Prelude.{◌↔◌, false, None, IfSome};
     ghost use Rattle.s10_history.specs.History.{day_of};
     ghost use Rattle.s10_history.specs.declared.settings.TheConstants.{MAX_LIMIT};
     ghost use Rattle.sqlite.specs.Held.{state};
     ghost use Rattle.sqlite.specs.State.{HasCleanDisk};
+    ghost use Rattle.s10_ledger.specs.Faults.{IsFaultOf};
     ghost use Rattle.s10_ledger.specs.Ledger.{Ledger, IsLedger, IsIndexed, IsHonest, history_in};
     ghost use Rattle.s10_ledger.specs.Ledger.{history_of, committed_of, MayCreate, MayFindAlso};
     ghost use Rattle.s10_statements.specs.ConnectionState.{IsQuiescent, WasSound};
@@ -91,11 +90,13 @@ impl<S: Alter> SqlBook<S> {
     /// # Errors
     ///
     /// - `NotEmpty` if a table with one of the five names exists.
+    /// - `Store`, without a cause, if the database has anything else in it.
     /// - `Memory` if out of memory.
-    /// - `Store` if a statement fails, or the database has anything else in it.
+    /// - `Store` if a statement fails for another reason.
     ///
-    /// A refusal returns the connection. Its tables are as before, if its disk is clean and it is
-    /// open.
+    /// The cause is the error of a statement that failed. There is none if the database is not
+    /// empty. A refusal returns the connection. Its tables are as before, if its disk is clean and
+    /// it is open.
     pub fn create<W: Observer>(
         alloc: Global,
         seed: HashSeed,
@@ -126,24 +127,26 @@ impl<S: Alter> SqlBook<S> {
         ensures was_refused { IfErr result (λ r. WasSound S.Store conn r.connection) }
         ensures crash_refused { IfErr result (λ r. MayCreate S.Store settings conn r.connection) }
         ensures refused { IfErr result (λ r. IsCreateRefusal (state S.Store conn).now.schema
-            r.fault) }
+            r.refusal.fault) }
+        ensures cause { IfErr result (λ r. IfSome r.refusal.cause (λ error. IsFaultOf error
+            r.refusal.fault)) }
+        ensures no_cause { IfErr result (λ r. (r.refusal.cause ≡ None)
+            ↔ ((state S.Store conn).now.schema ≢ no_schema)) }
         ensures kept { IfErr result (λ r. HasCleanDisk (state S.Store r.connection)
             → IsTrue (state S.Store r.connection).is_open → (state S.Store r.connection).now
             ≡ (state S.Store conn).now) }
         ensures not_empty { HasOneOfTheNames (state S.Store conn).now.schema
-            → IfErr result (λ r. r.fault ≡ OpenFault.NotEmpty) }
+            → IfErr result (λ r. r.refusal.fault ≡ OpenFault.NotEmpty) }
         ensures other_tables { ¬ HasOneOfTheNames (state S.Store conn).now.schema
             → (state S.Store conn).now.schema ≢ no_schema
-            → IfErr result (λ r. r.fault ≡ OpenFault.Store) }
+            → IfErr result (λ r. r.refusal.fault ≡ OpenFault.Store) }
     {
         let mut connection = conn;
         if let Some(fault) = refusal_of(&connection) {
-            return Err(Refused { fault, connection });
+            return Err(Refused::new(Refusal::from(fault), connection, observer));
         }
         if let Err(error) = create_tables(&mut connection, settings) {
-            observer.statement_failed(&error);
-            let fault = opening_fault(error);
-            return Err(Refused { fault, connection });
+            return Err(Refused::new(Refusal::from(error), connection, observer));
         }
         let index = CallIndex::new(alloc, seed);
         Ok(SqlBook::over(alloc, connection, settings, index))
@@ -181,7 +184,6 @@ impl<S: Alter> SqlBook<S> {
             pending: Vec::new(alloc),
             answered: true,
             last_failure: None,
-            has_refused: false,
         }
     }
 
@@ -258,16 +260,16 @@ impl<S: Alter> SqlBook<S> {
             pending: _,
             answered: _,
             last_failure: _,
-            has_refused: _,
         } = self;
         conn
     }
 }
 
 impl SqlBook<MemStore> {
-    ghost use Rattle.std.specs.Prelude.{◌≡◌, ◌⊎◌, IfOk, IfErr, [], false};
+    ghost use Rattle.std.specs.Prelude.{◌≡◌, ◌⊎◌, IfOk, IfErr, IfSome, None, [], false};
     ghost use Rattle.sqlite.specs.Held.{state};
     ghost use Rattle.sqlite.specs.Steps.{over_memory};
+    ghost use Rattle.s10_ledger.specs.Faults.{IsFaultOf};
     ghost use Rattle.s10_ledger.specs.Ledger.{IsHonest, history_in, history_of, committed_of};
     ghost use Rattle.s10_schema.specs.Schema.{ledger_schema};
 
@@ -277,12 +279,12 @@ impl SqlBook<MemStore> {
     /// # Errors
     ///
     /// - `Memory` if out of memory.
-    /// - `Store` if a statement fails.
+    /// - `Store` if a statement fails for another reason, which is the cause.
     pub fn in_memory(
         alloc: Global,
         seed: HashSeed,
         settings: Settings,
-    ) -> Result<SqlBook<MemStore>, OpenFault>
+    ) -> Result<SqlBook<MemStore>, Refusal>
         ensures new { IfOk result (λ b. (b.terms ≡ settings) × (b.faults ≡ no_faults)) }
         ensures idle { IfOk result (λ b. b.conn.in_transaction ≡ false) }
         ensures committed { IfOk result (λ b. (state over_memory b.conn).committed
@@ -293,19 +295,22 @@ impl SqlBook<MemStore> {
         ensures none_pending { IfOk result (λ b. b.pending ≡ []) }
         ensures whole { IfOk result (λ b. IsHonest over_memory b → committed_of over_memory b
             ≡ history_of over_memory b) }
-        ensures refused { IfErr result (λ f. (f ≡ OpenFault.Memory) ⊎ (f ≡ OpenFault.Store)) }
+        ensures refused { IfErr result (λ r. (r.fault ≡ OpenFault.Memory)
+            ⊎ (r.fault ≡ OpenFault.Store)) }
+        ensures cause { IfErr result (λ r. IfSome r.cause (λ error. IsFaultOf error r.fault)) }
+        ensures no_cause { IfErr result (λ r. r.cause ≡ None → r.fault ≡ OpenFault.Memory) }
     {
         let Ok(conn) = Connection::open_in_memory(alloc) else {
-            return Err(OpenFault::Memory);
+            return Err(Refusal::from(OpenFault::Memory));
         };
         match SqlBook::create(alloc, seed, conn, settings, &mut NoObserver) {
             Ok(book) => Ok(book),
             Err(
                 Refused {
-                    fault,
+                    refusal,
                     connection: _,
                 },
-            ) => Err(fault),
+            ) => Err(refusal),
         }
     }
 }
@@ -447,7 +452,6 @@ impl<S: Alter> SqlBook<S> {
             → OnOk result (IsHonest S.Store self.new) }
         ensures none_pending { OnOk result (self.new.pending ≡ []) }
     {
-        self.has_refused = false;
         self.ask_again()?;
         let mut most = self.pending.len().max(1);
         while !self.pending.is_empty() {
@@ -460,24 +464,6 @@ impl<S: Alter> SqlBook<S> {
             }
         }
         Ok(())
-    }
-
-    // Commits all pending calls. Refuses at once if this failed since the last `commit`, so that a
-    // full disk is not tried again for each call of a batch.
-    fn commit_once(&mut self) -> Result<(), BookFault>
-        ensures faults { CountsResult result self.old.faults self.new.faults }
-        ensures unchanged { LeavesUnchanged S.Store self.old self.new }
-        ensures opened { IsOverCleanDisk S.Store self.new
-            → OnOk result (IsHonest S.Store self.new) }
-        ensures none_pending { OnOk result (self.new.pending ≡ []) }
-    {
-        if self.has_refused {
-            return counted(&mut self.faults, Err(BookFault::Store));
-        }
-        let committed = self.commit_all();
-        let has_refused = committed.is_err();
-        self.has_refused = has_refused;
-        committed
     }
 
     // Commits if `MAX_BATCH` calls are pending. Otherwise asks the connection, as the reads do.
@@ -495,7 +481,7 @@ impl<S: Alter> SqlBook<S> {
             → HasFailed S.Store self.old.conn self.new.conn }
     {
         if self.pending.len() >= MAX_BATCH as usize {
-            return self.commit_once();
+            return self.commit_all();
         }
         self.ask_again()
     }
@@ -595,8 +581,7 @@ impl<S: Alter> GroupCommit for SqlBook<S> {
     ghost appends = { Appends S.Store };
 
     /// Appends the call to the pending ones, in the process. If `MAX_BATCH` calls are pending,
-    /// commits these first; once that has failed, refuses until the next `commit`. If fewer are
-    /// pending, the database is unchanged.
+    /// commits these first. If fewer are pending, the database is unchanged.
     fn append(&mut self, entry: Entry) -> Result<(), BookFault> {
         if let Err(fault) = self.make_room() {
             return Err(fault);

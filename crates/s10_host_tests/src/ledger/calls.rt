@@ -37,7 +37,7 @@ pub(crate) fn whole(len: u32, day: u32) -> LedgerSummary {
 pub(crate) fn ledger<R: Abort + AllocGlobal>(rt: &R, settings: Settings) -> SqlBook<MemStore> {
     match SqlBook::in_memory(rt.alloc(), HashSeed::fixed(), settings) {
         Ok(book) => book,
-        Err(fault) => panic!(rt; "{fault}"),
+        Err(refusal) => panic!(rt; "{}", refusal.fault),
     }
 }
 

@@ -249,7 +249,7 @@ pub(crate) fn commits_three_in<S: Alter>(
         }
         Err(
             Refused {
-                fault: _,
+                refusal: _,
                 connection,
             },
         ) => (None, connection),
@@ -273,7 +273,7 @@ pub(crate) fn keeps_five_in<S: Alter>(
         }
         Err(
             Refused {
-                fault: _,
+                refusal: _,
                 connection,
             },
         ) => (None, connection),

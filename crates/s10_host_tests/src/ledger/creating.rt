@@ -4,7 +4,7 @@ use crate::ledger::books::{Read, first_wrong_step_of, found_in};
 use crate::ledger::calls::{closed, ledger, settings};
 use crate::ledger::rows::{Shown, first_unshown};
 use s10_history::Settings;
-use s10_ledger::{HashSeed, NoObserver, OpenFault, Refused, SqlBook};
+use s10_ledger::{HashSeed, NoObserver, OpenFault, Refusal, Refused, SqlBook};
 use s10_test_help::expect::same;
 use s10_test_help::steps::NINE_CALLS;
 use sqlite::{Connection, MemStore};
@@ -53,13 +53,12 @@ fn a_new_ledger_has_its_settings_and_no_call(rt: HostRuntime) {
     assert!(rt; same(&rt, &"new, idle, its rows", &found, &(true, true, Ok(None))));
 }
 
-/// Returns the fault of a creation that is refused, and the connection. Aborts if a ledger is
-/// created.
+/// Returns why a creation is refused, and the connection. Aborts if a ledger is created.
 fn refusal<R: Abort + AllocGlobal>(
     rt: &R,
     conn: Connection<MemStore>,
     settings: Settings,
-) -> (OpenFault, Connection<MemStore>) {
+) -> (Refusal, Connection<MemStore>) {
     if !conn.is_autocommit() {
         panic!(rt; "in a transaction")
     }
@@ -71,7 +70,12 @@ fn refusal<R: Abort + AllocGlobal>(
         &mut NoObserver,
     ) {
         Ok(_) => panic!(rt; "made"),
-        Err(Refused { fault, connection }) => (fault, connection),
+        Err(
+            Refused {
+                refusal,
+                connection,
+            },
+        ) => (refusal, connection),
     }
 }
 
@@ -84,10 +88,10 @@ pub(crate) fn nine_kept<R: Abort + Eprint + AllocGlobal>(rt: &R) -> Connection<M
 
 #[test]
 fn a_ledger_is_not_created_over_a_ledger(rt: HostRuntime) {
-    let (fault, mut conn) = refusal(&rt, nine_kept(&rt), settings(&rt, 50));
+    let (refusal, mut conn) = refusal(&rt, nine_kept(&rt), settings(&rt, 50));
     let unshown = first_unshown(rt.alloc(), &mut conn, NINE_KEPT);
-    let wanted = (OpenFault::NotEmpty, Ok(None));
-    assert!(rt; same(&rt, &"the fault, its rows", &(fault, unshown), &wanted));
+    let wanted = (Refusal::from(OpenFault::NotEmpty), Ok(None));
+    assert!(rt; same(&rt, &"the refusal, its rows", &(refusal, unshown), &wanted));
 }
 
 /// Returns a database in which this statement was executed.
@@ -126,23 +130,31 @@ const TABLES: &[(&str, OpenFault)] = &[
     ("CREATE TABLE other (one INTEGER) STRICT", OpenFault::Store),
 ];
 
-/// Returns the fault of a creation in a database in which this statement was executed, and the
+/// Returns why a creation is refused in a database in which this statement was executed, and the
 /// number of tables and of views left.
-fn refused_beside<R: Abort + AllocGlobal>(rt: &R, text: &str) -> (OpenFault, usize, usize) {
-    let (fault, conn) = refusal(rt, database_of(rt, text), settings(rt, 100));
+fn refused_beside<R: Abort + AllocGlobal>(rt: &R, text: &str) -> (Refusal, usize, usize) {
+    let (refusal, conn) = refusal(rt, database_of(rt, text), settings(rt, 100));
     let schema = conn.schema();
-    (fault, schema.tables.len(), schema.views.len())
+    (refusal, schema.tables.len(), schema.views.len())
 }
 
 #[test]
 fn a_ledger_is_not_created_beside_other_tables(rt: HostRuntime) {
     for (text, fault) in TABLES {
-        assert!(rt; same(&rt, text, &refused_beside(&rt, text), &(*fault, 1, 0)));
+        let wanted = (Refusal::from(*fault), 1, 0);
+        assert!(rt; same(&rt, text, &refused_beside(&rt, text), &wanted));
     }
 }
 
 #[test]
 fn a_ledger_is_not_created_beside_a_view(rt: HostRuntime) {
     let found = refused_beside(&rt, "CREATE VIEW one AS SELECT 1");
-    assert!(rt; same(&rt, &"a view", &found, &(OpenFault::Store, 0, 1)));
+    assert!(rt;
+        same(
+            &rt,
+            &"a view",
+            &found,
+            &(Refusal::from(OpenFault::Store), 0, 1)
+        )
+    );
 }

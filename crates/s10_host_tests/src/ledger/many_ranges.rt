@@ -105,7 +105,7 @@ fn opened_again<R: Abort + AllocGlobal>(rt: &R, book: SqlBook<MemStore>) -> SqlB
     assert!(rt; connection.is_autocommit());
     match SqlBook::open(rt.alloc(), HashSeed::fixed(), connection, &mut NoObserver) {
         Ok(book) => book,
-        Err(refused) => panic!(rt; "{}", refused.fault),
+        Err(refused) => panic!(rt; "{}", refused.refusal.fault),
     }
 }
 

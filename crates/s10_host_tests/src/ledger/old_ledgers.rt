@@ -88,7 +88,7 @@ fn served<R: Abort + Eprint + AllocGlobal>(
         }
         Err(
             Refused {
-                fault: _,
+                refusal: _,
                 connection: _,
             },
         ) => None,

@@ -102,7 +102,7 @@ fn committed_in<S: Alter + Drop>(
         }
         Err(
             Refused {
-                fault: _,
+                refusal: _,
                 connection,
             },
         ) => (None, connection.into_store()),

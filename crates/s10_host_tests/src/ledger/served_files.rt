@@ -92,7 +92,7 @@ fn served_in<S: Alter + Drop>(
         }
         Err(
             Refused {
-                fault: _,
+                refusal: _,
                 connection,
             },
         ) => (None, connection.into_store()),
@@ -122,7 +122,7 @@ pub(crate) fn calls_in<S: Alter + Drop>(alloc: Global, conn: Connection<S>) -> O
         }
         Err(
             Refused {
-                fault: _,
+                refusal: _,
                 connection: _,
             },
         ) => None,

@@ -8,7 +8,7 @@ use crate::ledger::committing::{
 use crate::ledger::tables::{OLD_LEDGER, run_batches};
 use s10_book::Book;
 use s10_history::Settings;
-use s10_ledger::{HashSeed, NoObserver, OpenFault, Refused, SqlBook};
+use s10_ledger::{HashSeed, NoObserver, OpenFault, Refusal, Refused, SqlBook};
 use s10_test_help::expect::same;
 use sqlite::{Alter, Connection, FileStore, Files, Options};
 use sqlite_disk::{Crash, Disk, Fuse, Memory};
@@ -20,7 +20,7 @@ use std::process::Abort;
 enum Ended {
     /// The files are no database.
     Unconnected,
-    Refused(OpenFault),
+    Refused(Refusal),
     /// With this number of calls, and the table of closed ranges.
     Found(u32),
     /// Without the table of closed ranges.
@@ -108,7 +108,12 @@ fn ledger_in<S: Alter + Drop>(alloc: Global, conn: Connection<S>) -> (Ended, Con
             let conn = closed(book);
             (ending_of(&conn, calls), conn)
         }
-        Err(Refused { fault, connection }) => (Ended::Refused(fault), connection),
+        Err(
+            Refused {
+                refusal,
+                connection,
+            },
+        ) => (Ended::Refused(refusal), connection),
     }
 }
 
@@ -233,8 +238,8 @@ fn stopped(alloc: Global, old: &Files<Fuse<Memory>>, stops: Stops) -> Option<(En
     Some((ended, written == whole && synced == whole))
 }
 
-/// Returns for how many calls of one file a stop refuses the ledger with `Store`, before it opens
-/// and reaches no stop. Returns `None` if the ledger is refused for another reason, or is not whole
+/// Returns for how many calls of one file a stop refuses the ledger with `Store` and the error of a
+/// statement, before it opens and reaches no stop. Returns `None` if the ledger is refused for another reason, or is not whole
 /// after a stop.
 fn refused(
     alloc: Global,
@@ -247,7 +252,15 @@ fn refused(
         let (log, db) = if in_log { (at, NEVER) } else { (NEVER, at) };
         match stopped(alloc, old, Stops { options, log, db })? {
             (Ended::Found(9), true) => return Some(count),
-            (Ended::Refused(OpenFault::Store), true) => count = count.saturating_add(1),
+            (
+                Ended::Refused(
+                    Refusal {
+                        fault: OpenFault::Store,
+                        cause: Some(_),
+                    },
+                ),
+                true,
+            ) => count = count.saturating_add(1),
             (Ended::Unconnected, true) => {}
             _ => return None,
         }

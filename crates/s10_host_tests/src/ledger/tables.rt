@@ -152,7 +152,12 @@ pub(crate) fn found<S: Alter + Drop>(
             };
             Some((Ok(opened), closed(book)))
         }
-        Err(Refused { fault, connection }) => Some((Err(fault), connection)),
+        Err(
+            Refused {
+                refusal,
+                connection,
+            },
+        ) => Some((Err(refusal.fault), connection)),
     }
 }
 

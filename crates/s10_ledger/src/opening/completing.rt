@@ -1,6 +1,6 @@
 //! Completes the tables of an earlier build.
 
-ghost use Rattle.std.specs.Prelude.{◌≡◌, ◌⊎◌, IfErr, OnOk, OnErr, IsTrue};
+ghost use Rattle.std.specs.Prelude.{◌≡◌, ◌⊎◌, OnOk, OnErr, IsTrue};
 ghost use Rattle.sqlite_trees.specs.Tree.{Trees};
 ghost use Rattle.sqlite.specs.Held.{state};
 ghost use Rattle.sqlite.specs.State.{HasCleanDisk};
@@ -11,18 +11,12 @@ ghost use Rattle.s10_statements.specs.ConnectionState.{IsQuiescent, WasSound};
 ghost use Rattle.s10_ledger.specs.declared.opening.table_layout.TableLayout.TheVariants.{Whole, Old};
 ghost use Rattle.s10_ledger.specs.TableLayout.{HasTableLayout};
 
-use crate::faults::opening_fault;
 use crate::opening::table_layout::TableLayout;
-use s10_rows::OpenFault;
-use s10_statements::{Observer, create_closed};
-use sqlite::{Alter, Connection};
+use s10_statements::create_closed;
+use sqlite::{Alter, Connection, Error};
 
 // Creates `closed` if the tables are those of an earlier build.
-pub(crate) fn complete<S: Alter, W: Observer>(
-    conn: &mut Connection<S>,
-    form: TableLayout,
-    observer: &mut W,
-) -> Result<(), OpenFault>
+pub(crate) fn complete<S: Alter>(conn: &mut Connection<S>, form: TableLayout) -> Result<(), Error>
     requires settled { IsQuiescent S.Store conn.old }
     ensures settled { IsQuiescent S.Store conn.new }
     ensures was { WasSound S.Store conn.old conn.new }
@@ -40,16 +34,9 @@ pub(crate) fn complete<S: Alter, W: Observer>(
         ⊎ ((form ≡ Old) × IsTrue (state S.Store conn.old).is_open
         × ((tables : Tables) → HasOldTables (state S.Store conn.old).now tables
         → HasTables (record { schema = ledger_schema; trees = db }) tables)) }
-    ensures fault { IfErr result (λ f. (f ≡ OpenFault.Memory) ⊎ (f ≡ OpenFault.Store)) }
 {
     match form {
         TableLayout::Whole => Ok(()),
-        TableLayout::Old => match create_closed(conn) {
-            Ok(()) => Ok(()),
-            Err(error) => {
-                observer.statement_failed(&error);
-                Err(opening_fault(error))
-            }
-        },
+        TableLayout::Old => create_closed(conn),
     }
 }

@@ -62,9 +62,9 @@ returns-in-Err-clause-worked g c other =
     let (_, refusal, silent) = c.in-Err.ensures.refused in
     rw (c.resources_of.ensures.files, c.resources_of.ensures.link) (refused_over
     g.D.Days.gives c.args.job c.args.days.now c.run_over_store.new.days
-    c.args.connection c.in-Err.refusal.connection (g.W.Write.contents c.args.out.now)
+    c.args.connection c.in-Err.refused.connection (g.W.Write.contents c.args.out.now)
     (g.W.Write.contents c.run_over_store.new.out) (g.W.Write.contents c.fail_by_ledger.new.out)
-    c.in-Err.refusal.fault c.fail_by_ledger.result c.close_refused-files.result refusal silent
+    c.in-Err.refused.refusal.fault c.fail_by_ledger.result c.close_refused-files.result refusal silent
     c.fail_by_ledger.ensures c.close_refused-files.ensures.of c.close_refused-files.ensures.kept
     c.close_refused-files.ensures.committed
     )

@@ -17,7 +17,7 @@ returns-in-Ok g c =
 
 pub returns-in-Err : goal.returns-in-Err
 returns-in-Err g c = inr (record {
-  fault = c.in-Err.field-0.fault;
+  fault = c.in-Err.field-0.refusal.fault;
   refusal = c.in-Err.ensures.refused;
   printed = c.fail_by_ledger.ensures;
 })

@@ -130,13 +130,13 @@ pub returns-in_err-complete-clause-refused : goal.returns-in_err-complete-clause
 returns-in_err-complete-clause-refused g c clean opened =
     let p = err_from_is_err_and c.from_residual-in_err-complete.result
     c.from_residual-in_err-complete.ensures.1 in
-    rw (p.1, p.2) (refused_by_store (state g.S.Store c.args.conn.now).now
-    c.in_err-complete.field-0.0 c.in_err-complete.ensures.fault)
+    rw p.1 (refused_by_store (state g.S.Store c.args.conn.now).now p.0.fault p.2.1.0)
 
 pub returns-in_default-clause-refused : goal.returns-in_default-clause-refused
 returns-in_default-clause-refused g c clean opened =
     let none = rw c.in_default.is at c.table_layout_of.ensures.none in
-    inl (subst (λ (s : Schema). HasSomeTableLayout s → ⊥) c.schema.ensures.value none)
+    rw c.from.ensures.0 (inl (subst (λ (s : Schema). HasSomeTableLayout s → ⊥) c.schema.ensures.value
+    none))
 
 pub returns-in_default-clause-settled : goal.returns-in_default-clause-settled
 returns-in_default-clause-settled g c = c.requires.settled
@@ -274,7 +274,7 @@ returns-clause-crash g c =
     c.complete.ensures.was c.complete.ensures.crash
 
 pub returns-in_default-clause-no_tables : goal.returns-in_default-clause-no_tables
-returns-in_default-clause-no_tables g c = λ none. refl
+returns-in_default-clause-no_tables g c = λ none. c.from.ensures.0
 
 pub returns-in_err-book-clause-no_tables : goal.returns-in_err-book-clause-no_tables
 returns-in_err-book-clause-no_tables g c = λ none. absurd (none (
@@ -292,3 +292,9 @@ returns-in_err-complete-clause-no_tables g c = λ none. absurd (none (
 
 pub returns-clause-no_tables : goal.returns-clause-no_tables
 returns-clause-no_tables g c = λ none. tt
+
+pub returns-in_err-complete-clause-cause : goal.returns-in_err-complete-clause-cause
+returns-in_err-complete-clause-cause g c =
+    let p = err_from_is_err_and c.from_residual-in_err-complete.result
+    c.from_residual-in_err-complete.ensures.1 in
+    rw (p.1, p.2.0) p.2.1

@@ -1,4 +1,5 @@
 use Rattle.std.proofs.Common.{rules, ◌≡◌, inl, refl, subst}
+use Rattle.std.proofs.lemmas.Result.{on_ok_weaker}
 use Rattle.sqlite.specs.Held.{state}
 use Rattle.s10_ledger.specs.declared.opening.table_layout.TableLayout.{TableLayout}
 use Rattle.s10_ledger.specs.declared.opening.table_layout.TableLayout.TheVariants.{Whole, Old}
@@ -28,64 +29,33 @@ returns-in-Whole-clause-same g c = λ is. refl
 pub returns-in-Whole-clause-none : goal.returns-in-Whole-clause-none
 returns-in-Whole-clause-none g c = λ clean opened. tt
 
-pub returns-in-Whole-clause-fault : goal.returns-in-Whole-clause-fault
-returns-in-Whole-clause-fault g c = tt
+pub returns-in-Old-clause-settled : goal.returns-in-Old-clause-settled
+returns-in-Old-clause-settled g c = c.create_closed.ensures.settled
 
-pub returns-in-Ok-clause-settled : goal.returns-in-Ok-clause-settled
-returns-in-Ok-clause-settled g c = c.create_closed.ensures.settled
-
-pub returns-in-Ok-clause-was : goal.returns-in-Ok-clause-was
-returns-in-Ok-clause-was g c = sound_before g.S.Store c.args.conn.now c.create_closed.new.conn
+pub returns-in-Old-clause-was : goal.returns-in-Old-clause-was
+returns-in-Old-clause-was g c = sound_before g.S.Store c.args.conn.now c.create_closed.new.conn
     c.create_closed.ensures.clean c.create_closed.ensures.was_open
 
-pub returns-in-Ok-clause-opened : goal.returns-in-Ok-clause-opened
-returns-in-Ok-clause-opened g c = λ clean was. c.in-Ok.ensures.opened clean
+pub returns-in-Old-clause-opened : goal.returns-in-Old-clause-opened
+returns-in-Old-clause-opened g c = λ clean. on_ok_weaker c.create_closed.result
+    (λ opened was. opened) (c.create_closed.ensures.opened clean)
 
-pub returns-in-Ok-clause-whole : goal.returns-in-Ok-clause-whole
-returns-in-Ok-clause-whole g c = λ clean tables has. c.in-Ok.ensures.all clean tables
+pub returns-in-Old-clause-whole : goal.returns-in-Old-clause-whole
+returns-in-Old-clause-whole g c = λ clean. on_ok_weaker c.create_closed.result
+    (λ all tables has. all tables
     (subst (λ (f : TableLayout). HasTableLayout f (state g.S.Store c.args.conn.now).now tables)
-    c.in-Old.is has)
+    c.in-Old.is has)) (c.create_closed.ensures.all clean)
 
-pub returns-in-Ok-clause-same : goal.returns-in-Ok-clause-same
-returns-in-Ok-clause-same g c = λ is. absurd (not_both c.args.form c.in-Old.is is)
+pub returns-in-Old-clause-same : goal.returns-in-Old-clause-same
+returns-in-Old-clause-same g c = λ is. absurd (not_both c.args.form c.in-Old.is is)
 
-pub returns-in-Ok-clause-none : goal.returns-in-Ok-clause-none
-returns-in-Ok-clause-none g c = λ clean opened. tt
-
-pub returns-in-Ok-clause-fault : goal.returns-in-Ok-clause-fault
-returns-in-Ok-clause-fault g c = tt
-
-pub returns-in-Err-clause-settled : goal.returns-in-Err-clause-settled
-returns-in-Err-clause-settled g c = c.create_closed.ensures.settled
-
-pub returns-in-Err-clause-was : goal.returns-in-Err-clause-was
-returns-in-Err-clause-was g c = sound_before g.S.Store c.args.conn.now c.create_closed.new.conn
-    c.create_closed.ensures.clean c.create_closed.ensures.was_open
-
-pub returns-in-Err-clause-opened : goal.returns-in-Err-clause-opened
-returns-in-Err-clause-opened g c = λ clean. tt
-
-pub returns-in-Err-clause-whole : goal.returns-in-Err-clause-whole
-returns-in-Err-clause-whole g c = λ clean. tt
-
-pub returns-in-Err-clause-same : goal.returns-in-Err-clause-same
-returns-in-Err-clause-same g c = λ is. absurd (not_both c.args.form c.in-Old.is is)
-
-pub returns-in-Err-clause-none : goal.returns-in-Err-clause-none
-returns-in-Err-clause-none g c = c.in-Err.ensures.none
-
-pub returns-in-Err-clause-fault : goal.returns-in-Err-clause-fault
-returns-in-Err-clause-fault g c = c.opening_fault.ensures.fault
+pub returns-in-Old-clause-none : goal.returns-in-Old-clause-none
+returns-in-Old-clause-none g c = c.create_closed.ensures.none
 
 pub returns-in-Whole-clause-crash : goal.returns-in-Whole-clause-crash
 returns-in-Whole-clause-crash g c = λ clean db left. inl left
 
-pub returns-in-Ok-clause-crash : goal.returns-in-Ok-clause-crash
-returns-in-Ok-clause-crash g c =
-    λ clean db left. either (c.create_closed.ensures.crash clean db left)
-    (λ before. before) (λ made. (c.in-Old.is, made.0, made.1))
-
-pub returns-in-Err-clause-crash : goal.returns-in-Err-clause-crash
-returns-in-Err-clause-crash g c =
+pub returns-in-Old-clause-crash : goal.returns-in-Old-clause-crash
+returns-in-Old-clause-crash g c =
     λ clean db left. either (c.create_closed.ensures.crash clean db left)
     (λ before. before) (λ made. (c.in-Old.is, made.0, made.1))

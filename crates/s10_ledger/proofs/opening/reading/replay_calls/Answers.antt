@@ -43,6 +43,7 @@ returns-clause-rows g c clean opened settled has =
           (subst (λ l. IfOk c.new-replay.result.made (λ book. IsHead l (pos 1) book.settings
           × (book.index.entries.items ≡ []))) c.deref.ensures.value c.new-replay.ensures.ok)
           (λ tables heads. c.new-replay.ensures.err tables (heads ∙ sym c.deref.ensures.value))
+          c.new-replay.ensures.head_fault
           found.3),
     )
 

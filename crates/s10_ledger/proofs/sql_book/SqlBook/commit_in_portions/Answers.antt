@@ -9,20 +9,13 @@ use Rattle.s10_ledger.proofs.sql_book.SqlBook.commit_in_portions.Goals as goal
 pub returns-in_err-ask_again-clause-commits_some :
     goal.returns-in_err-ask_again-clause-commits_some
 returns-in_err-ask_again-clause-commits_some g c =
-    subst (λ (book : Ledger g.row.S.Denot). CommitsSomeOf g.S.Store book c.ask_again.new.self)
-    c.self.view_is
-    (commits_unchanged (λ h. (calls_of c.self.inside.pending.items, refl))
-    c.in_err-ask_again.ensures.unchanged)
+    commits_unchanged (λ h. (c.args.self.now.pending, refl)) c.in_err-ask_again.ensures.unchanged
 
 pub loop-self-init : goal.loop-self-init
 loop-self-init g c = record {
-  faults = c.in_ok-ask_again.ensures.faults
-      ∙ ap (λ (book : Ledger g.row.S.Denot). book.faults) c.self.view_is;
-  commits_some = subst
-      (λ (book : Ledger g.row.S.Denot). CommitsSomeOf g.S.Store book c.ask_again.new.self)
-      c.self.view_is
-      (commits_unchanged (λ h. (calls_of c.self.inside.pending.items, refl))
-      c.in_ok-ask_again.ensures.unchanged);
+  faults = c.in_ok-ask_again.ensures.faults;
+  commits_some =
+      commits_unchanged (λ h. (c.args.self.now.pending, refl)) c.in_ok-ask_again.ensures.unchanged;
   opened = c.in_ok-ask_again.ensures.opened;
   some = omega (arith, c.max-most.ensures);
 }

@@ -1,4 +1,5 @@
 use Rattle.std.proofs.Common.{◌≡◌, ◌⊎◌, inl, inr, List, length, arith, refl, ap, sym, subst}
+use Rattle.std.proofs.Common.{Option, None, Some}
 use Rattle.std.proofs.lemmas.List.{append-nil}
 use Rattle.sqlite_schema.specs.declared.schema.Schema.{Schema}
 use Rattle.sqlite.specs.Effect.{Database}
@@ -21,6 +22,9 @@ not_made : (s : Schema) (f : OpenFault) → ¬ HasOneOfTheNames s → (f ≡ Mem
     → IsCreateRefusal s f
 not_made s f fresh (inl is) = subst (λ (x : OpenFault). IsCreateRefusal s x) (sym is) tt
 not_made s f fresh (inr is) = subst (λ (x : OpenFault). IsCreateRefusal s x) (sym is) fresh
+
+not_both : (r : Option OpenFault) (f : OpenFault) → r ≡ None → r ≡ Some f → ⊥
+not_both r f none some = absurd cc
 
 pub over-requires : goal.over-requires
 over-requires g c =
@@ -65,13 +69,16 @@ returns-clause-alone g c = rw c.over.ensures (λ honest. c.in_default-create_tab
     honest.clean (c.refusal_of.ensures.none c.in_default.is))
 
 pub returns-in-Err-clause-left_idle : goal.returns-in-Err-clause-left_idle
-returns-in-Err-clause-left_idle g c = c.create_tables.ensures.settled.idle
+returns-in-Err-clause-left_idle g c = rw c.new-in-Err.ensures.connection
+    c.create_tables.ensures.settled.idle
 
 pub returns-in-Err-clause-was_refused : goal.returns-in-Err-clause-was_refused
-returns-in-Err-clause-was_refused g c = c.create_tables.ensures.was
+returns-in-Err-clause-was_refused g c = rw c.new-in-Err.ensures.connection
+    c.create_tables.ensures.was
 
 pub returns-in-Err-clause-kept : goal.returns-in-Err-clause-kept
-returns-in-Err-clause-kept g c = λ clean opened. c.in-Err.ensures.none clean opened
+returns-in-Err-clause-kept g c = rw c.new-in-Err.ensures.connection
+    (λ clean opened. c.in-Err.ensures.none clean opened)
 
 pub returns-clause-fresh : goal.returns-clause-fresh
 returns-clause-fresh g c = c.refusal_of.ensures.fresh c.in_default.is
@@ -152,16 +159,18 @@ pub returns-in-Err-clause-none_pending : goal.returns-in-Err-clause-none_pending
 returns-in-Err-clause-none_pending g c = tt
 
 pub returns-in-Some-clause-left_idle : goal.returns-in-Some-clause-left_idle
-returns-in-Some-clause-left_idle g c = c.requires.idle
+returns-in-Some-clause-left_idle g c = rw c.new.ensures.connection c.requires.idle
 
 pub returns-in-Some-clause-was_refused : goal.returns-in-Some-clause-was_refused
-returns-in-Some-clause-was_refused g c = λ clean. (clean, λ opened. opened)
+returns-in-Some-clause-was_refused g c = rw c.new.ensures.connection
+    (λ clean. (clean, λ opened. opened))
 
 pub returns-in-Some-clause-refused : goal.returns-in-Some-clause-refused
-returns-in-Some-clause-refused g c = c.in-Some.ensures.refusal
+returns-in-Some-clause-refused g c = rw (c.new.ensures.refusal, c.from.ensures.0)
+    c.in-Some.ensures.refusal
 
 pub returns-in-Some-clause-kept : goal.returns-in-Some-clause-kept
-returns-in-Some-clause-kept g c = λ clean opened. refl
+returns-in-Some-clause-kept g c = rw c.new.ensures.connection (λ clean opened. refl)
 
 pub returns-clause-new : goal.returns-clause-new
 returns-clause-new g c = rw c.over.ensures (refl, refl)
@@ -182,9 +191,9 @@ pub returns-clause-kept : goal.returns-clause-kept
 returns-clause-kept g c = tt
 
 pub returns-in-Err-clause-refused : goal.returns-in-Err-clause-refused
-returns-in-Err-clause-refused g c = not_made (state g.S.Store c.args.conn).now.schema
-    c.opening_fault-fault.result (c.refusal_of.ensures.fresh c.in_default.is)
-    c.opening_fault-fault.ensures.fault
+returns-in-Err-clause-refused g c = rw c.new-in-Err.ensures.refusal
+    (not_made (state g.S.Store c.args.conn).now.schema c.from-in-Err.result.fault
+    (c.refusal_of.ensures.fresh c.in_default.is) c.from-in-Err.ensures.1.0)
 
 pub returns-clause-crash : goal.returns-clause-crash
 returns-clause-crash g c = rw c.over.ensures (λ clean db left.
@@ -196,25 +205,34 @@ returns-clause-crash g c = rw c.over.ensures (λ clean db left.
     )))
 
 pub returns-in-Err-clause-crash_refused : goal.returns-in-Err-clause-crash_refused
-returns-in-Err-clause-crash_refused g c = λ clean db left.
+returns-in-Err-clause-crash_refused g c = rw c.new-in-Err.ensures.connection (λ clean db left.
     let new : Database = record { schema = ledger_schema; trees = db } in
     either (c.create_tables.ensures.crash clean (c.refusal_of.ensures.none c.in_default.is) db left)
     (λ before. before) (λ stands. (
       no_history new c.args.settings stands,
       new_ledger new c.args.settings stands,
-    ))
+    )))
 
 pub returns-in-Some-clause-crash_refused : goal.returns-in-Some-clause-crash_refused
-returns-in-Some-clause-crash_refused g c = λ clean db left. inl left
+returns-in-Some-clause-crash_refused g c = rw c.new.ensures.connection
+    (λ clean db left. inl left)
 
 pub returns-in-Some-clause-not_empty : goal.returns-in-Some-clause-not_empty
-returns-in-Some-clause-not_empty g c = named (state g.S.Store c.args.conn).now.schema
-    c.in-Some.fault c.in-Some.ensures.refusal c.in-Some.ensures.fault
+returns-in-Some-clause-not_empty g c = rw (c.new.ensures.refusal, c.from.ensures.0)
+    (named (state g.S.Store c.args.conn).now.schema
+    c.in-Some.fault c.in-Some.ensures.refusal c.in-Some.ensures.fault)
 
 pub returns-in-Some-clause-other_tables : goal.returns-in-Some-clause-other_tables
-returns-in-Some-clause-other_tables g c = λ none some. unnamed
-    (state g.S.Store c.args.conn).now.schema c.in-Some.fault c.in-Some.ensures.refusal
-    c.in-Some.ensures.fault none
+returns-in-Some-clause-other_tables g c = rw (c.new.ensures.refusal, c.from.ensures.0)
+    (λ none some. unnamed (state g.S.Store c.args.conn).now.schema c.in-Some.fault
+    c.in-Some.ensures.refusal c.in-Some.ensures.fault none)
+
+pub returns-in-Some-clause-no_cause : goal.returns-in-Some-clause-no_cause
+returns-in-Some-clause-no_cause g c = rw (c.new.ensures.refusal, c.from.ensures.1) (
+  λ none empty. let nothing = c.refusal_of.ensures.empty empty in
+      absurd (not_both c.refusal_of.result c.in-Some.fault nothing c.in-Some.is),
+  λ other. refl,
+)
 
 pub returns-in-Err-clause-not_empty : goal.returns-in-Err-clause-not_empty
 returns-in-Err-clause-not_empty g c = λ one.

@@ -7,15 +7,15 @@ returns-clause-room c = grind (arith, common_steps)
 
 pub returns-then-len-clause-faults :
     goal.returns-then-len-clause-faults
-returns-then-len-clause-faults g c = c.commit_once.ensures.faults
+returns-then-len-clause-faults g c = c.commit_all.ensures.faults
 
 pub returns-then-len-clause-unchanged :
     goal.returns-then-len-clause-unchanged
-returns-then-len-clause-unchanged g c = c.commit_once.ensures.unchanged
+returns-then-len-clause-unchanged g c = c.commit_all.ensures.unchanged
 
 pub returns-then-len-clause-opened :
     goal.returns-then-len-clause-opened
-returns-then-len-clause-opened g c = c.commit_once.ensures.opened
+returns-then-len-clause-opened g c = c.commit_all.ensures.opened
 
 pub returns-clause-faults : goal.returns-clause-faults
 returns-clause-faults g c = c.ask_again.ensures.faults

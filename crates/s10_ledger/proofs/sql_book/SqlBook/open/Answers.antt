@@ -12,9 +12,9 @@ use Rattle.s10_ledger.proofs.RefusalLemmas.{ledger_opens}
 use Rattle.s10_ledger.proofs.sql_book.SqlBook.open.Goals as goal
 
 pub returns-in-Err-clause-accepted : goal.returns-in-Err-clause-accepted
-returns-in-Err-clause-accepted g c clean opened t len day limits it =
-    ledger_opens (state g.S.Store c.args.conn).now t len day limits it c.in-Err.fault
-    (c.in-Err.ensures.refused clean opened)
+returns-in-Err-clause-accepted g c = rw (c.new.ensures.connection, c.new.ensures.refusal)
+    (λ clean opened t len day limits it. ledger_opens (state g.S.Store c.args.conn).now t len day
+    limits it c.in-Err.refusal.fault (c.in-Err.ensures.refused clean opened))
 
 pub ledger_in-requires : goal.ledger_in-requires
 ledger_in-requires g c =
@@ -94,25 +94,32 @@ pub returns-in-Ok-clause-none_pending : goal.returns-in-Ok-clause-none_pending
 returns-in-Ok-clause-none_pending g c = rw c.over.ensures refl
 
 pub returns-in-Err-clause-left_idle : goal.returns-in-Err-clause-left_idle
-returns-in-Err-clause-left_idle g c = c.ledger_in.ensures.settled.idle
+returns-in-Err-clause-left_idle g c = rw c.new.ensures.connection
+    c.ledger_in.ensures.settled.idle
 
 pub returns-in-Err-clause-was_refused : goal.returns-in-Err-clause-was_refused
-returns-in-Err-clause-was_refused g c = c.ledger_in.ensures.was
+returns-in-Err-clause-was_refused g c = rw c.new.ensures.connection c.ledger_in.ensures.was
 
 pub returns-in-Err-clause-refused : goal.returns-in-Err-clause-refused
-returns-in-Err-clause-refused g c = λ clean opened. c.in-Err.ensures.refused clean opened
+returns-in-Err-clause-refused g c = rw (c.new.ensures.connection, c.new.ensures.refusal)
+    (λ clean opened. c.in-Err.ensures.refused clean opened)
 
 pub returns-in-Err-clause-kept : goal.returns-in-Err-clause-kept
-returns-in-Err-clause-kept g c = λ clean opened. c.in-Err.ensures.kept clean opened
+returns-in-Err-clause-kept g c = rw c.new.ensures.connection
+    (λ clean opened. c.in-Err.ensures.kept clean opened)
 
 pub returns-in-Ok-clause-crash : goal.returns-in-Ok-clause-crash
 returns-in-Ok-clause-crash g c = rw c.over.ensures c.ledger_in.ensures.crash
 
 pub returns-in-Err-clause-crash_refused : goal.returns-in-Err-clause-crash_refused
-returns-in-Err-clause-crash_refused g c = c.ledger_in.ensures.crash
+returns-in-Err-clause-crash_refused g c = rw c.new.ensures.connection c.ledger_in.ensures.crash
 
 pub returns-in-Err-clause-no_tables : goal.returns-in-Err-clause-no_tables
-returns-in-Err-clause-no_tables g c = λ none. c.in-Err.ensures.no_tables none
+returns-in-Err-clause-no_tables g c = rw c.new.ensures.refusal
+    (λ none. c.in-Err.ensures.no_tables none)
+
+pub returns-in-Err-clause-cause : goal.returns-in-Err-clause-cause
+returns-in-Err-clause-cause g c = rw c.new.ensures.refusal c.in-Err.ensures.cause
 
 pub returns-in-Ok-clause-no_tables : goal.returns-in-Ok-clause-no_tables
 returns-in-Ok-clause-no_tables g c = λ none. tt
