@@ -106,6 +106,7 @@ def theorem_counts():
         counts[f"{name}-definitions"] = len(cited.names())
         counts[f"{name}-definition-lines"] = cited.lines()
         counts[f"{name}-types"] = len(cited.types)
+        counts[f"{name}-kit-words"] = len(cited.kit)
     return counts
 
 

@@ -1,22 +1,22 @@
 #!/usr/bin/env python3
 """Counts the lines of definitions that a reader must read to know what the main theorem says: the definitions in specs/ that the
 clauses of Server::run and of World::run cite, and those that these cite in turn. The same for serve_turns, which says what the
-program serves.
+program serves, and for run_serve, which says it of a ledger in a file.
 
     python3 checks/definition_lines.py           how many definitions and lines, for each function and for the first two
     python3 checks/definition_lines.py --names   also the definitions file by file, the types and the kit's words
 
 A clause or a definition cites each word in it that is defined in its own file or that a `use` line brings in. A definition within
 a module also cites the module's head. Comments, empty lines and `use` lines are not counted. Two kinds of cited names are listed
-and have no counted lines: types of the code (`declared`), and words of the kit (`std`)."""
+and have no counted lines: types of the code (`declared`), and words of the kit (`std`, `sqlite` and the crates below it)."""
 import os
 import re
 import sys
 
 CRATES = os.path.join(os.path.dirname(os.path.realpath(__file__)), "..", "crates")
 FUNCTIONS = [("s10_ends", "server.rt", "Server::run"), ("s10_world", "world.rt", "World::run")]
-SERVING = ("s10_jobs", "turns.rt", "serve_turns")
-USE = re.compile(r"use Rattle\.(s10_\w+|std)\.specs\.([\w.]+?)(?:\.\{([^}]*)\}| as (\w+))")
+SERVING = [("s10_jobs", "turns.rt", "serve_turns"), ("s10_host", "serve.rt", "run_serve")]
+USE = re.compile(r"use Rattle\.(s10_\w+|std|sqlite\w*)\.specs\.([\w.]+?)(?:\.\{([^}]*)\}| as (\w+))")
 HEAD = re.compile(r"(?:pub )?(?:abbrev|unfoldable|record|data) (?:pub )?([\w']+)")
 HEAD_IN_MODULE = re.compile(r"  (?:pub (?:record|data)|(?:abbrev|unfoldable) pub) ([\w']+)")
 WORD = re.compile(r"[A-Za-z_][\w']*")
@@ -104,10 +104,10 @@ def cite_text(text, own, scope, cited):
 def cite(target, cited):
     """Adds a definition (crate, file, name), and all that it cites."""
     crate, file, name = target
-    if crate == "std":
+    if not crate.startswith("s10_"):
         cited.kit.add(name)
     elif file.startswith("declared."):
-        cited.types.add(file.split(".")[2])
+        cited.types.add(next(part for part in file.split(".") if part[0].isupper()))
     elif target not in cited.definitions:
         found, scope = definitions_of(crate, file)
         cited.definitions[target] = len(found[name])
@@ -119,7 +119,7 @@ def cite(target, cited):
 def clauses_of(crate, file, function):
     """The lines of a function's clauses, and what its file's `use` lines bring in."""
     text = read(crate, "src", file)
-    head = re.search(rf"^( *)pub fn {function.split('::')[-1]}[(<]", text, re.M)
+    head = re.search(rf"^( *)pub(?:\(crate\))? fn {function.split('::')[-1]}[(<]", text, re.M)
     lines = text[head.start() : text.index(f"\n{head.group(1)}{{\n", head.start())].split("\n")
     lines = [line for line in lines if line.strip() and not line.strip().startswith("//")]
     first = next(index for index, line in enumerate(lines) if line.strip().startswith(("requires", "ensures")))
@@ -129,7 +129,7 @@ def clauses_of(crate, file, function):
 def main_theorem():
     """For each function its clauses' lines and what they cite; and the same for the first two together."""
     both, clause_lines, each = Cited(), 0, []
-    for crate, file, function in [*FUNCTIONS, SERVING]:
+    for crate, file, function in FUNCTIONS + SERVING:
         lines, scope = clauses_of(crate, file, function)
         cited = Cited()
         cite_text("\n".join(lines), {}, scope, cited)
@@ -156,9 +156,9 @@ def main():
     print(f"over {len(both.types)} types and {len(both.kit)} words of the kit")
     if "--names" in sys.argv[1:]:
         print_names(both)
-        function, _, cited = each[-1]
-        print(f"only {function}:")
-        print_names(cited.without(both))
+        for function, _, cited in each[len(FUNCTIONS) :]:
+            print(f"only {function}:")
+            print_names(cited.without(both))
 
 
 if __name__ == "__main__":

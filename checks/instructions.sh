@@ -5,6 +5,10 @@
 #     bash checks/instructions.sh [PROGRAM]
 set -eu
 
+# The C library fills and copies with `rep stosb` and `rep movsb` from a length on that depends on the machine, and callgrind
+# counts each of their bytes. So it must never do so here.
+export GLIBC_TUNABLES=glibc.cpu.x86_rep_stosb_threshold=1000000000:glibc.cpu.x86_rep_movsb_threshold=1000000000
+
 s10=$(readlink -f "${1:-$(dirname "$(readlink -f "${BASH_SOURCE[0]}")")/../crates/s10/out/s10}")
 dir=$(mktemp -d)
 trap 'rm -rf "$dir"' EXIT

@@ -57,28 +57,29 @@ static void note_link(const char *from, const char *to) {
     note(line);
 }
 
-int openat(int folder, const char *path, int flags, ...) {
-    va_list more;
+static int opened(int folder, const char *path, int flags, va_list more) {
     mode_t mode = 0;
     if (flags & O_CREAT) {
-        va_start(more, flags);
         mode = va_arg(more, mode_t);
-        va_end(more);
         count();
     }
     return (int)syscall(SYS_openat, folder, path, flags, mode);
 }
 
+int openat(int folder, const char *path, int flags, ...) {
+    va_list more;
+    va_start(more, flags);
+    int file = opened(folder, path, flags, more);
+    va_end(more);
+    return file;
+}
+
 int open(const char *path, int flags, ...) {
     va_list more;
-    mode_t mode = 0;
-    if (flags & O_CREAT) {
-        va_start(more, flags);
-        mode = va_arg(more, mode_t);
-        va_end(more);
-        count();
-    }
-    return (int)syscall(SYS_openat, AT_FDCWD, path, flags, mode);
+    va_start(more, flags);
+    int file = opened(AT_FDCWD, path, flags, more);
+    va_end(more);
+    return file;
 }
 
 int open64(const char *path, int flags, ...) __attribute__((alias("open")));
