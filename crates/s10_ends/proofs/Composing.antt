@@ -227,7 +227,7 @@ module _ {B : Type 0} (faults : B → Faults) (honest : B → Type 0) (terms : B
       → (old new : Trace × B) (batches : List DatedBatch)
       → BatchesLead (IsBatch faults honest terms history committed clean may_find) old batches new
       → honest new.1
-      → ServesAll faults honest terms history committed clean may_find old.1 new.1
+      → ServesAll honest terms history committed old.1 new.1
       (deliveries_in batches) (answers_in batches) (turns_in batches)
   all_composed legal old new batches lead h =
       let upto = upto_batches (history old.1) (terms old.1) (committed old.1) [] [] old new batches

@@ -50,12 +50,11 @@ not_full a zero other at = other (same_Some a (Faulted Full) at)
 not_full a (suc k) other at = none-some (Faulted Full) at
 
 pub Served-dropped : (h : List Entry) (t : Terms) (b : List ℕ) (day : ℕ) (fault : WireFault)
-    → AskNothing b → IsFirstRefusalOfRequest b fault
-    → Served h t ((b, day) ∷ []) (Dropped fault ∷ []) h
-Served-dropped h t b day fault asks refused =
+    → AskNothing b → Served h t ((b, day) ∷ []) (Dropped fault ∷ []) h
+Served-dropped h t b day fault asks =
     record {
       once_each = ([], nothing asks none, refl);
-      answered = ((asks, refused), tt);
+      answered = (asks, tt);
       full = λ k d is at. absurd (not_full (Dropped fault) k (λ e. cc) at);
     }
 

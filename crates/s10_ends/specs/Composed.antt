@@ -76,14 +76,8 @@ pub record Carries (old new : Trace) (datagrams : List (Peer × Packet)) (sends 
   pub tried : sends_in made ≡ sends
   pub sent : sent_in made ≡ frames
 
-module _ {B : Type 0} (faults : B → Faults) (honest : B → Type 0) (terms : B → Terms)
-    (history committed : B → List Entry) (clean : B → Type 0)
-    (may_find : B → Option (List Entry) → Type 0) where
-  -- One batch, from a link's trace and a server's book to those after it.
-  abbrev pub IsBatch : Trace × B → DatedBatch → Trace × B → Type 0
-  IsBatch old batch new = (most : ℕ) × ServesBatch faults honest terms history committed clean
-      may_find batch.day most old new batch.taken batch.turns
-
+module _ {B : Type 0} (honest : B → Type 0) (terms : B → Terms)
+    (history committed : B → List Entry) where
   -- Batches with these deliveries, answers and turns led from one book to the other. The history is
   -- what each distinct request once, in order of first arrival, gives, and keeps its promises.
   -- Every identifier in a reply was issued to its request. Committed calls stay committed. Every
@@ -98,6 +92,14 @@ module _ {B : Type 0} (faults : B → Faults) (honest : B → Type 0) (terms : B
     pub stays_committed : Grows (committed old) (committed new)
     pub stands : All (IsSentCommitted (committed new)) turns
     pub owed : All (IsOwedReply (committed new) deliveries) turns
+
+module _ {B : Type 0} (faults : B → Faults) (honest : B → Type 0) (terms : B → Terms)
+    (history committed : B → List Entry) (clean : B → Type 0)
+    (may_find : B → Option (List Entry) → Type 0) where
+  -- One batch, from a link's trace and a server's book to those after it.
+  abbrev pub IsBatch : Trace × B → DatedBatch → Trace × B → Type 0
+  IsBatch old batch new = (most : ℕ) × ServesBatch faults honest terms history committed clean
+      may_find batch.day most old new batch.taken batch.turns
 
   -- Wherever the book was honest after some of the batches, if it is clean after all of them, an
   -- opening finds after a stop every call whose reply the first ones sent. It finds a beginning of

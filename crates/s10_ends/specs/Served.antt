@@ -6,7 +6,6 @@ use Rattle.s10_wire.specs.declared.request.Request.{Request}
 use Rattle.s10_wire.specs.declared.outcome.Outcome.{Outcome}
 use Rattle.s10_wire.specs.declared.outcome.Outcome.TheVariants.{NumberReused}
 use Rattle.s10_wire.specs.Datagrams.{Asks, Replies}
-use Rattle.s10_wire.specs.WireFault.{IsFirstRefusalOfRequest}
 use Rattle.s10_history.specs.declared.entry.Entry.{Entry}
 use Rattle.s10_book.specs.declared.book_fault.BookFault.TheVariants.{Full}
 use Rattle.s10_history.specs.Settings.{Terms}
@@ -60,11 +59,11 @@ abbrev pub IsReplyIn : List Entry → List ℕ → Type 0
 IsReplyIn h f = (q : Request) × (o : Outcome) × GivesOutcome (find_entry h q.customer q.number) q o
     × Replies f q o
 
--- The answer to bytes is right for the final history. Bytes that ask nothing are dropped with their
--- first refusal. Bytes that ask something get the owed reply, unless the book failed or was full.
+-- The answer to bytes is right for the final history. Only bytes that ask nothing are dropped. Bytes
+-- that ask something get the owed reply, unless the book failed or was full.
 abbrev pub IsAnswered : List Entry → List ℕ → Answer → Type 0
 IsAnswered h b (Reply frame) = IsOwed h b frame
-IsAnswered h b (Dropped fault) = AskNothing b × IsFirstRefusalOfRequest b fault
+IsAnswered h b (Dropped fault) = AskNothing b
 IsAnswered h b (Faulted fault) = AskSomething b
 
 -- There are as many calls as the limit, and none with the key of the request.

@@ -20,8 +20,8 @@ pub fn batches_compose<B: Book>()
     ensures compose { (old new : Trace × B) (batches : List DatedBatch)
         → BatchesLead (IsBatch B.faults B.honest B.terms B.history B.committed B.clean B.may_find)
         old batches new
-        → B.honest new.1 → ServesAll B.faults B.honest B.terms B.history B.committed B.clean
-        B.may_find old.1 new.1 (deliveries_in batches) (answers_in batches) (turns_in batches) }
+        → B.honest new.1 → ServesAll B.honest B.terms B.history B.committed old.1 new.1
+        (deliveries_in batches) (answers_in batches) (turns_in batches) }
     ensures carry { (old new : Trace × B) (batches : List DatedBatch)
         → BatchesLead (IsBatch B.faults B.honest B.terms B.history B.committed B.clean B.may_find)
         old batches new

@@ -39,10 +39,10 @@ use Rattle.s10_host.specs.Files.{FileConnection, FileLedger, ClosedFiles, Copies
 use Rattle.s10_host.specs.Files.{IsFoundIn, IsFileFault, IsAbsenceOr, IsNotMade, IsNotOpened}
 use Rattle.s10_host.specs.Files.{LeavesClean, AreFilesOf, Keeps, KeepsRefused, IsUnopenedAs}
 use Rattle.s10_host.specs.Audited.{HasFound, KeepsAudited, audit_line, audit_status}
-use Rattle.s10_host.specs.Closing.{IsClosedAs, TurnsUntil}
+use Rattle.s10_host.specs.Closing.{IsClosedAs}
 use Rattle.s10_host.specs.Jobs.{ledger_line, FailsByLedger, FailsByClosing, EndsAs, IsAskedFor}
 use Rattle.s10_host.specs.Jobs.{HasMadeLedger, HasCreated, EndsServed, IsRefusedIn, IsUnopened}
-use Rattle.s10_host.specs.Jobs.{IsServed, IsUnlinked, Writes, IsReported, IsReportOf, HasServed}
+use Rattle.s10_host.specs.Jobs.{IsUnlinked, Writes, IsReported, IsReportOf, HasServed}
 use Rattle.s10_host.specs.Jobs.{HasReported}
 use Rattle.s10_host.specs.Jobs.{HasAudited}
 use Rattle.s10_host.specs.Ended.{HasEnded}
@@ -293,14 +293,6 @@ module _ (S : RattleType) (first : Ghosts S.Denot) where
       (failed, fault, inr (inl is), written)
   absent_or_refused old new (Err e) printed = tt
 
-  was_honest : {C : Type 0} (gives : C → Option ℕ → C → Type 0) (options : TurnOptions)
-      (begun ended : C) (named : Bool) (old new : Option (List ℕ))
-      (opened after : FileLedger S first) (result : Result JobStatus WriteFault) (link : BoundLink)
-      → TurnsUntil over_files gives options begun ended named opened after old new result link
-      → IsHonest over_files after → IsHonest over_files opened
-  was_honest gives options begun ended named old new opened after result link turns h =
-      (turns.1.composed h).was_honest
-
   -- Which calls the files of a served ledger hold.
   ends_served : (served : FileLedger S first) (closed : FileConnection S first)
       (committed : Result (Unit {0}) BookFault) (f : ClosedFiles S first)
@@ -322,26 +314,34 @@ module _ (S : RattleType) (first : Ghosts S.Denot) where
             put.left copies,
       )
 
-  served_away : {C : Type 0} (gives : C → Option ℕ → C → Type 0) (options : TurnOptions)
-      (begun ended : C) (named : Bool) (old new last : Option (List ℕ))
-      (opened served : FileLedger S first) (closed : FileConnection S first)
+  -- The calls that the files hold, without what was printed.
+  served_into : (served : FileLedger S first) (done result : Result JobStatus WriteFault)
+      (new last : Option (List ℕ)) (f : ClosedFiles S first)
+      → EndsServed S first served done new last result f
+      → ClosesInto served (history_of over_files served) f
+      ⊎ ((result ≢ Ok Done) × ClosesInto served (committed_of over_files served) f)
+  served_into served done result new last f (inl (same, still, whole)) = inl whole
+  served_into served done result new last f (inr (failed, left)) =
+      inr (λ is. not_lost done result new last is failed, left)
+
+  served_away : (served : FileLedger S first) (closed : FileConnection S first)
       (committed : Result (Unit {0}) BookFault) (done result : Result JobStatus WriteFault)
-      (files : Option (ClosedFiles S first)) (link : BoundLink)
-      → TurnsUntil over_files gives options begun ended named opened served old new done link
+      (new last : Option (List ℕ)) (files : Option (ClosedFiles S first))
       → IsClosedAs over_files served closed committed
       → IfSome files (λ f. Copies closed f × EndsAs committed done new last result)
-      → IfSome files (IsServed S first gives opened options begun ended named old last result link)
-  served_away gives options begun ended named old new last opened served closed committed done result None link turns put
-      kept = tt
-  served_away gives options begun ended named old new last opened served closed committed done result (Some f) link turns
-      put (copies, ends) = record {
-        served = served;
-        turned = done;
-        between = new;
-        turns = turns;
-        was_honest = was_honest gives options begun ended named old new opened served done link turns;
-        ends = ends_served served closed committed f done result new last put copies ends;
-      }
+      → IfSome files (EndsServed S first served done new last result)
+  served_away served closed committed done result new last None put kept = tt
+  served_away served closed committed done result new last (Some f) put (copies, ends) =
+      ends_served served closed committed f done result new last put copies ends
+
+  all_served_into : (served : FileLedger S first) (done result : Result JobStatus WriteFault)
+      (new last : Option (List ℕ)) (files : Option (ClosedFiles S first))
+      → IfSome files (EndsServed S first served done new last result)
+      → IfSome files (λ f. ClosesInto served (history_of over_files served) f
+      ⊎ ((result ≢ Ok Done) × ClosesInto served (committed_of over_files served) f))
+  all_served_into served done result new last None ends = tt
+  all_served_into served done result new last (Some f) ends =
+      served_into served done result new last f ends
 
   unlinked_kept : (old new last : Option (List ℕ)) (done result : Result JobStatus WriteFault)
       → IfOk done (λ status. (status ≡ Failed)
@@ -408,8 +408,8 @@ module _ (S : RattleType) (first : Ghosts S.Denot) where
       → HasServed S first gives bind options begun ended named old new result files link
   served_over gives bind at options begun ended named after was old new result None None text found
       (inr refused) = record {
-        at = tt;
         served = tt;
+        turns = tt;
         unlinked = λ _. inr (inr (inl (
           (at, text),
           fails_by (IsNotOpened S first) refused.fault old new result
@@ -423,8 +423,8 @@ module _ (S : RattleType) (first : Ghosts S.Denot) where
       }
   served_over gives bind at options begun ended named after was old new result (Some f) None text found
       (inr refused) = record {
-        at = tt;
         served = tt;
+        turns = tt;
         unlinked = λ _. inr (inr (inl (
           (at, text),
           refused_in (λ fault db. IsOpeningRefusal db fault) was refused.fault old new result f
@@ -437,8 +437,8 @@ module _ (S : RattleType) (first : Ghosts S.Denot) where
       (inl over) =
       let (opened, opening, served, put, unbound, turns) = over.worked in
       record {
-        at = tt;
         served = tt;
+        turns = tt;
         unlinked = λ _. inr (inr (inr (
           (at, text),
           opened,
@@ -449,24 +449,29 @@ module _ (S : RattleType) (first : Ghosts S.Denot) where
       }
   served_over gives bind at options begun ended named after was old new result files (Some l) text found
       (inl over) =
-      let (opened, opening, served, put, unbound, (bound, turns)) = over.worked in
+      let (opened, opening, served, put, unbound, (bound, serves, turns)) = over.worked in
+      let found = found_book (image_at first) was opened (shown (image_at first) was found) opening in
+      let ends = served_away served over.closed over.committed over.done result over.between new files
+      put over.kept in
       record {
-        at = (at, text, bound);
-        served = (
-          opened,
-          found_book (image_at first) was opened (shown (image_at first) was found) opening,
-          served_away gives options begun ended named old over.between new opened served over.closed
-              over.committed over.done result files l (after, turns) put over.kept,
-          λ none. record {
-            served = served;
-            turned = over.done;
-            between = over.between;
-            turns = (after, turns);
-            was_honest = was_honest gives options begun ended named old over.between opened served
-                over.done l (after, turns);
-            printed = over.lost none;
-          },
-        );
+        served = record {
+          at = (at, text, bound);
+          opened = opened;
+          found = found;
+          served = served;
+          serves = serves;
+          closes_into = all_served_into served over.done result over.between new files ends;
+        };
+        turns = record {
+          opened = opened;
+          found = found;
+          served = served;
+          turned = over.done;
+          between = over.between;
+          turns = (after, turns);
+          ends = ends;
+          lost = over.lost;
+        };
         unlinked = λ none. absurd cc;
       }
 
@@ -501,8 +506,8 @@ module _ (S : RattleType) (first : Ghosts S.Denot) where
       same says is gone no_files =
       subst (HasServed S first gives bind options begun ended named old new result files) (sym gone)
       (record {
-        at = tt;
         served = tt;
+        turns = tt;
         unlinked = λ _. inl (
           λ peer. absurd
               (let some = read peer.0 (subst (λ t. SpellsPeer t peer.0) (sym same) peer.1) in
@@ -527,8 +532,8 @@ module _ (S : RattleType) (first : Ghosts S.Denot) where
       subst (HasServed S first gives bind options begun ended named old new result files)
       (sym gone)
       (record {
-        at = tt;
         served = tt;
+        turns = tt;
         unlinked = λ _. inr (inl ((at, text), is, no_files, says));
       })
 
@@ -552,8 +557,8 @@ module _ (S : RattleType) (first : Ghosts S.Denot) where
       gone =
       subst (HasServed S first gives bind options begun ended named old new result files) (sym gone)
       (record {
-        at = tt;
         served = tt;
+        turns = tt;
         unlinked = λ _. inr (inr (inl ((at, text), unopened fault old new result files is says none)));
       })
 

@@ -64,11 +64,11 @@ opened_for g was book opened honest found same history none sound = record {
   none_pending = none;
 }
 
--- Two facts of a link that may be there.
-pub bound_served : {L : Type 0} (P Q : L → Type 0) (link : Option L) → IfSome link P
-    → IfSome link Q → IfSome link (λ l. P l × Q l)
-bound_served P Q None p q = tt
-bound_served P Q (Some l) p q = (p, q)
+-- Three facts of a link that may be there.
+pub bound_served : {L : Type 0} (P Q R : L → Type 0) (link : Option L) → IfSome link P
+    → IfSome link Q → IfSome link R → IfSome link (λ l. P l × Q l × R l)
+bound_served P Q R None p q r = tt
+bound_served P Q R (Some l) p q r = (p, q, r)
 
 -- If a list followed by others is the list, there are no others.
 nothing_left : {X : Type 0} (xs ys zs : List X) → xs ≡ (xs ++ ys) ++ zs → zs ≡ []

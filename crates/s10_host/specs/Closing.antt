@@ -13,7 +13,7 @@ use Rattle.s10_ledger.specs.Ledger.{committed_of}
 use Rattle.s10_statements.specs.ConnectionState.{IsClean, IsOpen}
 use Rattle.s10_jobs.specs.declared.job_status.JobStatus.{JobStatus}
 use Rattle.s10_jobs.specs.declared.turn_options.TurnOptions.{TurnOptions}
-use Rattle.s10_jobs.specs.Serving.{ServesTurns}
+use Rattle.s10_jobs.specs.Serving.{ServesLink, ServesTurns}
 use Rattle.s10_host.specs.UntilFile.{EndsIfNamed}
 
 module _ {S : Type 0} (g : Ghosts S) where
@@ -35,6 +35,11 @@ module _ {S : Type 0} (g : Ghosts S) where
         ≡ committed_of g book)
     pub same : book.pending ≡ [] → closed ≡ book.conn
     pub none_pending : book.pending ≡ [] → OnErr commit_result ⊥
+
+  -- What a server did to a ledger with all that a new link carried.
+  abbrev pub ServesOver : Ledger S → Ledger S → BoundLink → Type 0
+  ServesOver opened served link = ServesLink (IsHonest g) (λ b. b.terms) (history_of g)
+      (committed_of g) (new_trace, opened) (link.trace, served)
 
   -- The turns of these options on a new link, on the given day or on those of a source, and their
   -- lines.

@@ -1,6 +1,6 @@
 -- Defines what each job has done when it ends, and what it has printed.
 use denote.RattleType.{RattleType}
-use Rattle.std.specs.Prelude.{◌≡◌, ◌⊎◌, ℕ, Bool, true, List, [], ◌∷◌, ◌++◌, codes}
+use Rattle.std.specs.Prelude.{◌≡◌, ◌≢◌, ◌⊎◌, ℕ, Bool, true, List, [], ◌∷◌, ◌++◌, codes}
 use Rattle.std.specs.Prelude.{Option}
 use Rattle.std.specs.Prelude.{Some, None, Result, Ok, Err, IsOk, IfOk, IfSome}
 use Rattle.std.specs.Io.KnownBytes.{Appends}
@@ -37,7 +37,7 @@ use Rattle.s10_reports.specs.declared.issues_report.IssuesReport.{IssuesReport}
 use Rattle.s10_jobs.specs.Days.{IsTaken}
 use Rattle.s10_jobs.specs.Questioning.{IsAsked, IsUnasked}
 use Rattle.s10_host.specs.declared.loop_resources.LoopResources.{LoopResources}
-use Rattle.s10_host.specs.Closing.{TurnsUntil}
+use Rattle.s10_host.specs.Closing.{ServesOver, TurnsUntil}
 use Rattle.s10_host.specs.Called.{HasCalled}
 use Rattle.s10_host.specs.LoopRun.{HasRunLoop}
 use Rattle.s10_host.specs.Files.{FileConnection, FileLedger, ClosedFiles, WhereClean, IsFoundIn}
@@ -132,28 +132,33 @@ module _ (S : RattleType) (first : Ghosts S.Denot) where
       ⊎ (FailsByClosing turned between new result
       × ClosesInto served (committed_of over_files served) files)
 
-  -- The ledger was served in turns, which are all that the link carried, and closed in these files.
-  pub record IsServed {C : Type 0} (gives : C → Option ℕ → C → Type 0)
-      (opened : FileLedger S first) (options : TurnOptions) (begun ended : C)
-      (named : Bool) (old new : Option (List ℕ)) (result : Result JobStatus WriteFault) (link : BoundLink)
-      (files : ClosedFiles S first) : Type 0 where
+  -- What a server did to the ledger in the files, with all that the link carried, at the address. The
+  -- ledger was found in the files as it was when it was opened. If the closed files kept what was
+  -- written, it was honest when it was closed, and they hold all its calls, or, if the status is not
+  -- `Done`, the committed ones.
+  pub record ServesFiles (bind : List ℕ) (result : Result JobStatus WriteFault)
+      (files : Option (ClosedFiles S first)) (link : BoundLink) : Type 0 where
+    pub at : (at : Peer) × SpellsPeer bind at × IsBoundAt at link.at
+    pub opened : FileLedger S first
+    pub found : WhereClean (IsFoundBook (image_at first)) opened
     pub served : FileLedger S first
-    pub turned : Result JobStatus WriteFault
-    pub between : Option (List ℕ)
-    pub turns : TurnsUntil over_files gives options begun ended named opened served old between turned link
-    pub was_honest : IsHonest over_files served → IsHonest over_files opened
-    pub ends : EndsServed served turned between new result files
+    pub serves : ServesOver over_files opened served link
+    pub closes_into : IfSome files (λ f. ClosesInto served (history_of over_files served) f
+        ⊎ ((result ≢ Ok Done) × ClosesInto served (committed_of over_files served) f))
 
-  -- The ledger was served in turns, and could not be closed.
-  pub record IsLost {C : Type 0} (gives : C → Option ℕ → C → Type 0) (opened : FileLedger S first)
+  -- The ledger was served in turns, and closed in these files, or it could not be closed.
+  pub record IsServed {C : Type 0} (gives : C → Option ℕ → C → Type 0)
       (options : TurnOptions) (begun ended : C) (named : Bool) (old new : Option (List ℕ))
-      (result : Result JobStatus WriteFault) (link : BoundLink) : Type 0 where
+      (result : Result JobStatus WriteFault) (files : Option (ClosedFiles S first))
+      (link : BoundLink) : Type 0 where
+    pub opened : FileLedger S first
+    pub found : WhereClean (IsFoundBook (image_at first)) opened
     pub served : FileLedger S first
     pub turned : Result JobStatus WriteFault
     pub between : Option (List ℕ)
     pub turns : TurnsUntil over_files gives options begun ended named opened served old between turned link
-    pub was_honest : IsHonest over_files served → IsHonest over_files opened
-    pub printed : FailsByClosing turned between new result
+    pub ends : IfSome files (EndsServed served turned between new result)
+    pub lost : files ≡ None → FailsByClosing turned between new result
 
   -- The ledger was opened, and its address could not be bound.
   pub record IsUnlinked (opened : FileLedger S first) (old new : Option (List ℕ))
@@ -186,18 +191,14 @@ module _ (S : RattleType) (first : Ghosts S.Denot) where
       ⊎ (IsPeerText bind × (opened : FileLedger S first) × WhereClean (IsFoundBook (image_at first))
       opened × IsUnlinked opened old new result files)
 
-  -- The ledger was opened from the files and served at the address. If the closed files kept what
-  -- was written, it was honest when it was closed, and so when it was opened. Or there is no link,
-  -- and the line says why.
+  -- The ledger in the files was served at the address, in turns. Or there is no link, and the line
+  -- says why.
   pub record HasServed {C : Type 0} (gives : C → Option ℕ → C → Type 0) (bind : List ℕ)
       (options : TurnOptions) (begun ended : C) (named : Bool) (old new : Option (List ℕ))
       (result : Result JobStatus WriteFault) (files : Option (ClosedFiles S first))
       (link : Option BoundLink) : Type 0 where
-    pub at : IfSome link (λ l. (at : Peer) × SpellsPeer bind at × IsBoundAt at l.at)
-    pub served : IfSome link (λ l. (opened : FileLedger S first)
-        × WhereClean (IsFoundBook (image_at first)) opened
-        × IfSome files (IsServed gives opened options begun ended named old new result l)
-        × (files ≡ None → IsLost gives opened options begun ended named old new result l))
+    pub served : IfSome link (ServesFiles bind result files)
+    pub turns : IfSome link (IsServed gives options begun ended named old new result files)
     pub unlinked : link ≡ None → HasNoLink bind named old new result files
 
   -- The report of the ledger's history was printed, unless the book or the writer failed.

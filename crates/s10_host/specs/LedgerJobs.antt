@@ -30,7 +30,7 @@ use Rattle.s10_jobs.specs.Reporting.{report_lines, PrintsReport}
 use Rattle.s10_jobs.specs.Unbound.{IsUnbound}
 use Rattle.s10_host.specs.declared.ledger_job.LedgerJob.{LedgerJob}
 use Rattle.s10_host.specs.declared.ledger_job.LedgerJob.TheVariants.{Create, Serve, Report, Audit}
-use Rattle.s10_host.specs.Closing.{IsClosedAs, Turns}
+use Rattle.s10_host.specs.Closing.{IsClosedAs, ServesOver, Turns}
 use Rattle.s10_host.specs.Files.{Copies, KeepsRefused}
 use Rattle.s10_host.specs.Jobs.{ledger_line, FailsByClosing, EndsAs}
 
@@ -65,7 +65,7 @@ module _ {S : Type 0} (g : Ghosts S) where
       (opened : Ledger S) × IsOpenedFrom was opened × (served : Ledger S)
       × IsClosedAs g served closed commit_result
       × (link ≡ None → IsUnbound opened served old new done)
-      × IfSome link (λ l. IsBoundAt at l.at
+      × IfSome link (λ l. IsBoundAt at l.at × ServesOver g opened served l
       × Turns g gives options first last says begun ended opened served old new done l)
 
   -- What a job other than an audit did over a connection, the days that it took, what it printed, the

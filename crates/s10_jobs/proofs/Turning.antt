@@ -29,7 +29,7 @@ use Rattle.s10_jobs.specs.declared.turn_options.TurnOptions.{TurnOptions}
 use Rattle.s10_jobs.specs.Days.{Gives, IsNoDay, IsTaken, AreTaken}
 use Rattle.s10_jobs.specs.DayGuard.{guard_of, IsNextDay, IsRefusedDay, IsServedDay}
 use Rattle.s10_jobs.specs.Ending.{noes, AreEnded}
-use Rattle.s10_jobs.specs.Serving.{DaysFit, Serves, ServesTurns}
+use Rattle.s10_jobs.specs.Serving.{DaysFit, Serves, ServesLink, ServesTurns}
 
 lead_more : {S : Type 0} (IsStep : S → DatedBatch → S → Type 0) (old : S)
     (batches : List DatedBatch) (mid new : S) (batch : DatedBatch)
@@ -373,10 +373,25 @@ as_one faults honest terms history committed clean may_find legal first_law foun
       days = on.days;
       guarded = on.fit;
       ends = on.ends;
-      carries = batches_carry faults honest terms history committed clean may_find old new
-          on.serves.batches on.serves.lead;
-      composed = all_composed faults honest terms history committed clean may_find legal old new
-          on.serves.batches on.serves.lead;
       survives = survived faults honest terms history committed clean may_find legal first_law found
           old new;
+    }
+
+-- What the batches of turns give together.
+pub served_link : {B D E : Type 0} (faults : B → Faults) (honest : B → Type 0) (terms : B → Terms)
+    (history committed : B → List Entry) (clean : B → Type 0)
+    (may_find : B → Option (List Entry) → Type 0)
+    → ((book : B) → honest book → IsLegal (history book) (terms book))
+    → (gives : D → Option ℕ → D → Type 0) (options : TurnOptions) (says : E → Bool → E → Type 0)
+    (old new : Trace × B) (first last : D) (begun ended : E) (held now : Option (List ℕ))
+    (result : Result JobStatus WriteFault)
+    → ServesTurns faults honest terms history committed clean may_find gives options says old new
+    first last begun ended held now result → ServesLink honest terms history committed old new
+served_link faults honest terms history committed clean may_find legal gives options says old new
+    first last begun ended held now result turns = record {
+      batches = turns.serves.batches;
+      carries = batches_carry faults honest terms history committed clean may_find old new
+          turns.serves.batches turns.serves.lead;
+      composed = all_composed faults honest terms history committed clean may_find legal old new
+          turns.serves.batches turns.serves.lead;
     }

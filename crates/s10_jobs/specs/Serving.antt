@@ -50,16 +50,27 @@ DaysFit IsStep Fits old new [] lead = Unit {0}
 DaysFit IsStep Fits old new (batch ∷ batches) (next, step, rest) = Fits old batch.day
     × DaysFit IsStep Fits next new batches rest
 
+module _ {B : Type 0} (honest : B → Type 0) (terms : B → Terms)
+    (history committed : B → List Entry) where
+  -- What a server did with all that its link carried. Between the two traces the link received exactly
+  -- the datagrams of these batches, and sent exactly the replies to them that their turns name, each to
+  -- its sender. If the book is honest after them, they give what one run over all their datagrams
+  -- gives.
+  pub record ServesLink (old new : Trace × B) : Type 0 where
+    pub batches : List DatedBatch
+    pub carries : Carries old.0 new.0 (datagrams_in batches) (replies_in batches)
+        (frames_in (turns_in batches))
+    pub composed : honest new.1 → ServesAll honest terms history committed old.1 new.1
+        (deliveries_in batches) (answers_in batches) (turns_in batches)
+
 module _ {B : Type 0} (faults : B → Faults) (honest : B → Type 0) (terms : B → Terms)
     (history committed : B → List Entry) (clean : B → Type 0)
     (may_find : B → Option (List Entry) → Type 0) where
   -- The turns of a server, `count` of them unless a source of ends ends them, in batches on the given
   -- day, or each on the next day that a source gives. A day that the source gave and the guard refuses
-  -- is no day: no batch was served on it, and the turns ended. The link received exactly the datagrams
-  -- of the batches, and sent exactly the replies to them that their turns name, each to its sender. If
-  -- the book is honest after them, they give what one run over all their datagrams gives. If it is
-  -- clean after them and was honest after some of them, an opening after a stop finds each call whose
-  -- reply these sent.
+  -- is no day: no batch was served on it, and the turns ended. If the book is clean after them and was
+  -- honest after some of them, an opening after a stop finds each call whose reply these sent. What
+  -- such batches give together is said by `ServesLink`.
   pub record ServesTurns {D E : Type 0} (gives : D → Option ℕ → D → Type 0) (options : TurnOptions)
       (says : E → Bool → E → Type 0) (old new : Trace × B) (before after : D) (begun ended : E)
       (held now : Option (List ℕ)) (result : Result JobStatus WriteFault) : Type 0
@@ -72,9 +83,4 @@ module _ {B : Type 0} (faults : B → Faults) (honest : B → Type 0) (terms : B
           (λ (s : Trace × B) day. IsServedDay honest history (guard_of options) s.1 day) old new
           serves.batches serves.lead
       pub ends : AreEnded says serves.batches options.count result begun ended
-      pub carries : Carries old.0 new.0 (datagrams_in serves.batches) (replies_in serves.batches)
-          (frames_in (turns_in serves.batches))
-      pub composed : honest new.1 → ServesAll faults honest terms history committed clean may_find
-          old.1 new.1 (deliveries_in serves.batches) (answers_in serves.batches)
-          (turns_in serves.batches)
       pub survives : SurvivesStop faults honest terms history committed clean may_find old new

@@ -3,7 +3,7 @@
 ghost use Rattle.std.specs.Prelude.{◌≡◌, None, IfSome};
 ghost use Rattle.s10_link.specs.UdpLink.{IsBoundAt};
 ghost use Rattle.s10_link.specs.Link.{new_trace};
-ghost use Rattle.s10_jobs.specs.Serving.{ServesTurns};
+ghost use Rattle.s10_jobs.specs.Serving.{ServesLink, ServesTurns};
 ghost use Rattle.s10_jobs.specs.Unbound.{IsUnbound};
 
 use crate::binding::bind_link;
@@ -51,6 +51,9 @@ where
     ensures unbound { result.1 ≡ None → IsUnbound book result.2 (W.contents out.old)
         (W.contents out.new) result.0 × (days.new ≡ days.old) × (ends.new ≡ ends.old) }
     ensures served { IfSome result.1
+        (λ link. ServesLink B.honest B.terms B.history B.committed (new_trace, book)
+        (link.trace, result.2)) }
+    ensures turns { IfSome result.1
         (λ link. ServesTurns B.faults B.honest B.terms B.history B.committed B.clean B.may_find D.gives
         options E.says (new_trace, book) (link.trace, result.2) days.old days.new ends.old ends.new
         (W.contents out.old) (W.contents out.new) result.0) }

@@ -6,7 +6,7 @@ ghost use Rattle.std.specs.Io.KnownBytes.{Appends};
 ghost use Rattle.s10_link.specs.Link.{LeadsTo};
 ghost use Rattle.s10_ends.specs.Server.{book_of};
 ghost use Rattle.s10_jobs.specs.TurnLines.{turn_line};
-ghost use Rattle.s10_jobs.specs.Serving.{ServesTurns};
+ghost use Rattle.s10_jobs.specs.Serving.{ServesLink, ServesTurns};
 
 use crate::day_guard::day_of_batch;
 use crate::days::Days;
@@ -68,6 +68,8 @@ where
     D: Days,
     E: Ending,
     W: Write,
+    ensures served { ServesLink B.honest B.terms B.history B.committed
+        (L.trace_of link.old, book_of server.old) (L.trace_of link.new, book_of server.new) }
     ensures turns { ServesTurns B.faults B.honest B.terms B.history B.committed B.clean B.may_find
         D.gives options E.says
         (L.trace_of link.old, book_of server.old) (L.trace_of link.new, book_of server.new)

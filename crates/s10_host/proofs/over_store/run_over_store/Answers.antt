@@ -81,8 +81,9 @@ returns-in_ok-book-in-Serve-clause-worked g c done link ledger is =
         λ none. rw (c.into_inner.ensures, ← c.new-batched.ensures)
             (c.serve_at-done.ensures.unbound none).0,
         rw (c.into_inner.ensures, ← c.new-batched.ensures)
-            (bound_served (λ (l : BoundLink). IsBoundAt c.in-Serve.at l.at) _ _
-            c.serve_at-done.ensures.at c.serve_at-done.ensures.served),
+            (bound_served (λ (l : BoundLink). IsBoundAt c.in-Serve.at l.at) _ _ _
+            c.serve_at-done.ensures.at c.serve_at-done.ensures.served
+            c.serve_at-done.ensures.turns),
       ),
     )
 

@@ -5,6 +5,7 @@ use Rattle.s10_link.proofs.Led.{led_on}
 use Rattle.s10_ends.specs.Composed.{IsBatch}
 use Rattle.s10_jobs.proofs.Turning.{none_served, batch_served, batch_unprinted, next_as}
 use Rattle.s10_jobs.proofs.Turning.{all_served, served_to_end, served_to_no_day, none_is_none, as_one}
+use Rattle.s10_jobs.proofs.Turning.{served_link}
 use Rattle.s10_jobs.proofs.turns.serve_turns.Goals.{in-Ok+in_ok-print_turns-in-Ok, in-Err+in_ok-print_turns-in-Err}
 use Rattle.s10_jobs.proofs.turns.serve_turns.Goals as goal
 
@@ -192,3 +193,23 @@ returns-in_default-clause-turns g c =
     c.loop-done.server.book c.day_of_batch.result None c.loop-done.days c.day_of_batch.new.days
     c.book.ensures c.in_default.is c.day_of_batch.ensures.next)
     c.fail_by_clock.ensures)
+
+pub returns-in_err-print_turns-in-Ok-clause-served : goal.returns-in_err-print_turns-in-Ok-clause-served
+returns-in_err-print_turns-in-Ok-clause-served g c =
+    served_link _ _ _ _ _ _ _ g.met.B.Book.legal _ _ _ _ _ _ _ _ _ _ _ _ (returns-in_err-print_turns-in-Ok-clause-turns g c)
+
+pub returns-in_err-print_turns-in-Err-clause-served : goal.returns-in_err-print_turns-in-Err-clause-served
+returns-in_err-print_turns-in-Err-clause-served g c =
+    served_link _ _ _ _ _ _ _ g.met.B.Book.legal _ _ _ _ _ _ _ _ _ _ _ _ (returns-in_err-print_turns-in-Err-clause-turns g c)
+
+pub returns-clause-served : goal.returns-clause-served
+returns-clause-served g c =
+    served_link _ _ _ _ _ _ _ g.met.B.Book.legal _ _ _ _ _ _ _ _ _ _ _ _ (returns-clause-turns g c)
+
+pub returns-then-is_due-clause-served : goal.returns-then-is_due-clause-served
+returns-then-is_due-clause-served g c =
+    served_link _ _ _ _ _ _ _ g.met.B.Book.legal _ _ _ _ _ _ _ _ _ _ _ _ (returns-then-is_due-clause-turns g c)
+
+pub returns-in_default-clause-served : goal.returns-in_default-clause-served
+returns-in_default-clause-served g c =
+    served_link _ _ _ _ _ _ _ g.met.B.Book.legal _ _ _ _ _ _ _ _ _ _ _ _ (returns-in_default-clause-turns g c)

@@ -12,7 +12,7 @@ use Rattle.s10_ends.proofs.server.Server.handle.Goals as goal
 pub returns-in-Err-clause-served : goal.returns-in-Err-clause-served
 returns-in-Err-clause-served g c = λ h.
     Served-dropped (g.B.Book.history c.args.self.now.book) (g.B.Book.terms c.args.self.now.book)
-    c.args.bytes.now c.args.day c.in-Err.fault c.in-Err.ensures.nothing c.in-Err.ensures.refused
+    c.args.bytes.now c.args.day c.in-Err.fault c.in-Err.ensures.nothing
 
 pub returns-in-Some-clause-served : goal.returns-in-Some-clause-served
 returns-in-Some-clause-served g c = λ h.
