@@ -49,15 +49,17 @@ abbrev pub GivesOutcome : Option Entry → Request → Outcome → Type 0
 GivesOutcome None q o = ⊥
 GivesOutcome (Some e) q o = (e.request ≡ q → o ≡ e.outcome) × (e.request ≢ q → o ≡ NumberReused)
 
+-- The history gives the request that outcome.
+abbrev pub GivesIn : List Entry → Request → Outcome → Type 0
+GivesIn h q o = GivesOutcome (find_entry h q.customer q.number) q o
+
 -- The bytes f are the reply that the history gives to the bytes b.
 abbrev pub IsOwed : List Entry → List ℕ → List ℕ → Type 0
-IsOwed h b f = (q : Request) × (o : Outcome) × Asks b q
-    × GivesOutcome (find_entry h q.customer q.number) q o × Replies f q o
+IsOwed h b f = (q : Request) × (o : Outcome) × Asks b q × GivesIn h q o × Replies f q o
 
 -- The bytes f are the reply to some request, with the outcome that the history gives to it.
 abbrev pub IsReplyIn : List Entry → List ℕ → Type 0
-IsReplyIn h f = (q : Request) × (o : Outcome) × GivesOutcome (find_entry h q.customer q.number) q o
-    × Replies f q o
+IsReplyIn h f = (q : Request) × (o : Outcome) × GivesIn h q o × Replies f q o
 
 -- The answer to bytes is right for the final history. Only bytes that ask nothing are dropped. Bytes
 -- that ask something get the owed reply, unless the book failed or was full.

@@ -24,7 +24,7 @@ use Rattle.s10_history.specs.History.{has_key, find_entry}
 use Rattle.s10_book.specs.Once.{applied_once}
 use Rattle.s10_ends.specs.declared.client.SubmitFault.{SubmitFault}
 use Rattle.s10_ends.specs.declared.client.SubmitFault.TheVariants.{Busy, NumbersSpent}
-use Rattle.s10_ends.specs.Served.{GivesOutcome, IsOwed}
+use Rattle.s10_ends.specs.Served.{GivesOutcome, GivesIn, IsOwed, IsReplyIn}
 use Rattle.s10_ends.specs.Client.{ClientState, next_number, next_request, after_submit}
 use Rattle.s10_ends.specs.Client.{submit_fault, without_pending}
 use Rattle.s10_world.specs.declared.event.Event.{Event}
@@ -35,7 +35,7 @@ use Rattle.s10_world.specs.World.{SendsPending, Resends, ServesRequest, ReachesS
 use Rattle.s10_world.specs.World.{DeliversRequest, DeliversReply, Step, Steps}
 use Rattle.s10_world.specs.declared.network.WorldFault.{WorldFault}
 use Rattle.s10_world.specs.Parts.{place_of}
-use Rattle.s10_world.specs.Sound.{GivesIn, IsGivenBy, IsTakenBy, IsOfClient, IsAwaited}
+use Rattle.s10_world.specs.Sound.{IsTakenBy, IsOfClient, IsAwaited}
 use Rattle.s10_world.specs.Sound.{IsSoundWorld}
 use Rattle.s10_world.proofs.Places.{after_set, set_here, set_elsewhere}
 use Rattle.s10_ends.proofs.Applied.{once_one}
@@ -253,8 +253,8 @@ sound_replied : (w : WorldState) (b f : List ℕ) (p : Request) (day n : ℕ)
 sound_replied w b f p day n owed sound =
     let h = applied_once w.history ((p, day) ∷ []) n in
     record {
-      replied = All-push (IsGivenBy h) w.replied f
-          (All-weaker (IsGivenBy w.history) (IsGivenBy h)
+      replied = All-push (IsReplyIn h) w.replied f
+          (All-weaker (IsReplyIn w.history) (IsReplyIn h)
           (λ x is. (is.0, is.1, gives_later w.history p day n is.0 is.1 is.2, is.3)) w.replied
           sound.replied)
           (owed.0, owed.1, owed.3, owed.4);
@@ -293,7 +293,7 @@ sound_request t w w' None day is sound = sound_same w w' is sound
 sound_request t w w' (Some b) day is sound = sound_reaches t w w' b day is sound
 
 -- The reply is one that the history gives to the request in its bytes.
-given_by : (h : List Entry) (b : List ℕ) (q : Request) (o : Outcome) → IsGivenBy h b → Replies b q o
+given_by : (h : List Entry) (b : List ℕ) (q : Request) (o : Outcome) → IsReplyIn h b → Replies b q o
     → GivesIn h q o
 given_by h b q o is replies =
     let same = one_reply b is.0 q is.1 o is.3 replies in
@@ -340,7 +340,7 @@ sound_reply w w' k i None b there came is sound = sound_same w w' is sound
 sound_reply w w' k i (Some c) None there came is sound = sound_same w w' is sound
 sound_reply w w' k i (Some c) (Some b) there came is sound = elim is [
   | inl own ↦ sound_same _ w' own.3 (sound_accept w k c own.0 own.1 there own.2.0
-      (given_by w.history b own.0 own.1 (all_at (IsGivenBy w.history) w.replied i b sound.replied
+      (given_by w.history b own.0 own.1 (all_at (IsReplyIn w.history) w.replied i b sound.replied
       came) own.2.1) sound)
   | inr other ↦ sound_same w w' other.1 sound
 ]

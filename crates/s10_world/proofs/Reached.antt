@@ -13,6 +13,7 @@ use Rattle.s10_book.specs.Once.{entry_for, applied}
 use Rattle.s10_book.specs.Rules.{IsLegal}
 use Rattle.s10_book.proofs.Push.{IsLegal-push}
 use Rattle.s10_book.proofs.Own.{own}
+use Rattle.s10_ends.specs.Served.{IsReplyIn}
 use Rattle.s10_ends.specs.Client.{ClientState, IsNew, submit_fault}
 use Rattle.s10_world.specs.declared.event.Event.{Event}
 use Rattle.s10_world.specs.declared.event.Event.TheVariants.{Submit, Resend, GiveUp, ToServer}
@@ -20,7 +21,7 @@ use Rattle.s10_world.specs.declared.event.Event.TheVariants.{Strange, ToClient}
 use Rattle.s10_world.specs.World.{WorldState, after_submit_by, after_give_up_by, SendsPending}
 use Rattle.s10_world.specs.World.{Resends, ServesRequest, ReachesServer, DeliversRequest}
 use Rattle.s10_world.specs.World.{DeliversReply, Step, Steps}
-use Rattle.s10_world.specs.Sound.{IsGivenBy, IsOfClient, IsStart, IsSoundWorld}
+use Rattle.s10_world.specs.Sound.{IsOfClient, IsStart, IsSoundWorld}
 use Rattle.s10_ends.proofs.Applied.{once_one}
 use Rattle.s10_world.proofs.Kept.{all_at}
 
@@ -31,8 +32,8 @@ none_within xs j empty within = let none : length xs ≡ 0 = ap length empty in
 pub start_sound : (w : WorldState) → IsStart w → IsSoundWorld w
 start_sound w start =
     record {
-      replied = All-same (IsGivenBy w.history) w.replied [] start.replied
-          (All-nil (IsGivenBy w.history));
+      replied = All-same (IsReplyIn w.history) w.replied [] start.replied
+          (All-nil (IsReplyIn w.history));
       taken = All-same (IsOfClient w.clients) w.submitted [] start.submitted
           (All-nil (IsOfClient w.clients));
       in_turn = λ i j d before within. absurd (none_within w.submitted j start.submitted within);

@@ -25,13 +25,21 @@ use Rattle.s10_history.specs.declared.issuance.Issuance.{Issuance}
 use Rattle.s10_history.specs.Settings.{Terms}
 use Rattle.s10_history.specs.History.{has_key, find_entry}
 use Rattle.s10_book.specs.Rules.{IsLegal, answer_of, outcome_of_pick, outcome_of_draws, void_issue}
-use Rattle.s10_ends.specs.Served.{GivesOutcome}
+use Rattle.s10_ends.specs.Served.{GivesOutcome, GivesIn}
 use Rattle.s10_world.specs.World.{Acceptance, WorldState}
-use Rattle.s10_world.specs.Agreement.{HasOutcome, HasOther, IsOutcomeIn, Agrees}
+use Rattle.s10_world.specs.Agreement.{Agrees}
 use Rattle.s10_world.specs.Agreement.{IsExecutedAtMostOnce, RevealsExecution, IsAtMostOnce}
-use Rattle.s10_world.specs.Sound.{GivesIn, IsSoundWorld}
+use Rattle.s10_world.specs.Sound.{IsSoundWorld}
 use Rattle.s10_ends.proofs.Equal.{same_request_or_not}
 use Rattle.s10_history.proofs.Numbering.{found_passes, Contains-find}
+
+-- The history has the request, with that outcome.
+abbrev HasOutcome : List Entry → Request → Outcome → Type 0
+HasOutcome h q o = (e : Entry) × Contains h e × (e.request ≡ q) × (e.outcome ≡ o)
+
+-- The history has another request with the same key.
+abbrev HasOther : List Entry → Request → Type 0
+HasOther h q = (e : Entry) × Contains h e × IsTrue (has_key q.customer q.number e) × (e.request ≢ q)
 
 outcome_at : (h : List Entry) (q : Request) (o : Outcome) (kept : Option Entry)
     → find_entry h q.customer q.number ≡ kept → GivesOutcome kept q o
@@ -56,8 +64,7 @@ agrees w sound =
       submitted = sound.submitted;
       distinct = λ i j d before within client same. absurd (let less = sound.accepted_in_turn i j d
           before within client in omega arith);
-      outcomes = All-weaker (λ a. GivesIn w.history a.request a.outcome) (IsOutcomeIn w.history)
-          (λ a. outcome_in w.history a.request a.outcome) w.accepted sound.given;
+      outcomes = sound.given;
     }
 
 -- Two calls with the same key each have the other's key.

@@ -13,11 +13,12 @@ use Rattle.s10_history.specs.declared.issuance.Issuance.{Issuance}
 use Rattle.s10_history.specs.Issues.{carried_by, issues_at, issues_from}
 use Rattle.s10_book.specs.Promises.{IsSpaced}
 use Rattle.s10_book.proofs.Carried.{made_by}
+use Rattle.s10_ends.specs.Served.{GivesIn}
 use Rattle.s10_ends.specs.Client.{ClientState}
 use Rattle.s10_ends.proofs.Carried.{carrying, issued_here, issued}
 use Rattle.s10_world.specs.World.{Acceptance, WorldState}
 use Rattle.s10_world.specs.Agreement.{HaveOwnNumbers, AreOneCallEach, AreDaysApart, IsUnshared}
-use Rattle.s10_world.specs.Sound.{GivesIn, IsOfClient, IsSoundWorld}
+use Rattle.s10_world.specs.Sound.{IsOfClient, IsSoundWorld}
 
 pairs_head : {X : Type 0} (R : X → X → Type 0) (x : X) (xs : List X) → AllPairs R (x ∷ xs)
     → All (R x) xs

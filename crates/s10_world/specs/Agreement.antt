@@ -1,37 +1,22 @@
 -- How the replies that the clients accepted agree with the calls that the server executed.
-use Rattle.std.specs.Prelude.{◌≡◌, ◌≢◌, ℕ, ◌+◌, ◌≤◌, ◌⊎◌, All, AllPairs, Contains, IsTrue, List}
+use Rattle.std.specs.Prelude.{◌≡◌, ◌≢◌, ℕ, ◌+◌, ◌≤◌, ◌⊎◌, All, AllPairs, Contains, List}
 use Rattle.std.specs.Prelude.{Some, slice_get}
 use Rattle.s10_core.specs.declared.id.Id.{Id}
 use Rattle.s10_wire.specs.declared.request.Request.{Request}
-use Rattle.s10_wire.specs.declared.outcome.Outcome.{Outcome}
 use Rattle.s10_wire.specs.declared.outcome.Outcome.TheVariants.{NumberReused}
 use Rattle.s10_history.specs.declared.entry.Entry.{Entry}
-use Rattle.s10_history.specs.History.{has_key}
 use Rattle.s10_history.specs.Issues.{carried_by}
+use Rattle.s10_ends.specs.Served.{GivesIn}
 use Rattle.s10_ends.specs.Client.{ClientState}
 use Rattle.s10_world.specs.World.{Acceptance, WorldState}
 
--- The history has the request, with that outcome.
-abbrev pub HasOutcome : List Entry → Request → Outcome → Type 0
-HasOutcome h q o = (e : Entry) × Contains h e × (e.request ≡ q) × (e.outcome ≡ o)
-
--- The history has another request with the same key.
-abbrev pub HasOther : List Entry → Request → Type 0
-HasOther h q = (e : Entry) × Contains h e × IsTrue (has_key q.customer q.number e) × (e.request ≢ q)
-
--- The accepted outcome is that of the request in the history, or it is NumberReused and another
--- request has the key there.
-abbrev pub IsOutcomeIn : List Entry → Acceptance → Type 0
-IsOutcomeIn h a = HasOutcome h a.request a.outcome
-    ⊎ ((a.outcome ≡ NumberReused) × HasOther h a.request)
-
 -- The accepted replies agree with the history. Each request was submitted by its client, and no
--- client accepted two replies to one number. Each outcome is that of the history.
+-- client accepted two replies to one number. Each outcome is the one that the history gives.
 pub record Agrees (w : WorldState) : Type 0 where
   pub submitted : All (λ a. Contains w.submitted (a.client, a.request)) w.accepted
   pub distinct : AllPairs (λ a b. a.client ≡ b.client → a.request.number ≢ b.request.number)
       w.accepted
-  pub outcomes : All (IsOutcomeIn w.history) w.accepted
+  pub outcomes : All (λ a. GivesIn w.history a.request a.outcome) w.accepted
 
 -- The request is the call at the index, from 0.
 abbrev pub IsExecutedAt : List Entry → Request → ℕ → Type 0

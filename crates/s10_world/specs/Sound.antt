@@ -2,21 +2,9 @@
 use Rattle.std.specs.Prelude.{◌≡◌, ℕ, ◌+◌, ◌<◌, ◌≤◌, All, AllPairs, Contains, List, [], Some}
 use Rattle.std.specs.Prelude.{slice_get}
 use Rattle.s10_wire.specs.declared.request.Request.{Request}
-use Rattle.s10_wire.specs.declared.outcome.Outcome.{Outcome}
-use Rattle.s10_wire.specs.Datagrams.{Replies}
-use Rattle.s10_history.specs.declared.entry.Entry.{Entry}
-use Rattle.s10_history.specs.History.{find_entry}
-use Rattle.s10_ends.specs.Served.{GivesOutcome}
+use Rattle.s10_ends.specs.Served.{GivesIn, IsReplyIn}
 use Rattle.s10_ends.specs.Client.{ClientState, IsNew, next_number}
 use Rattle.s10_world.specs.World.{WorldState}
-
--- The history gives the request that outcome.
-abbrev pub GivesIn : List Entry → Request → Outcome → Type 0
-GivesIn h q o = GivesOutcome (find_entry h q.customer q.number) q o
-
--- The bytes are a reply that the history gives.
-abbrev pub IsGivenBy : List Entry → List ℕ → Type 0
-IsGivenBy h b = (q : Request) × (o : Outcome) × GivesIn h q o × Replies b q o
 
 -- The request is of the client's customer, and has a number that the client has used.
 abbrev pub IsTakenBy : ClientState → Request → Type 0
@@ -44,7 +32,7 @@ pub record IsStart (w : WorldState) : Type 0 where
 -- Every reply is one that the history gives, and every submitted request is its client's. The
 -- clients submitted and accepted their numbers in order.
 pub record IsSoundWorld (w : WorldState) : Type 0 where
-  pub replied : All (IsGivenBy w.history) w.replied
+  pub replied : All (IsReplyIn w.history) w.replied
   pub taken : All (IsOfClient w.clients) w.submitted
   pub in_turn : AllPairs (λ s u. s.0 ≡ u.0 → s.1.number < u.1.number) w.submitted
   pub awaited : (k : ℕ) (c : ClientState) (q : Request) → slice_get w.clients k ≡ Some c
