@@ -40,7 +40,7 @@ same_start g h t legal_g legal_h same (suc n) le =
     ∙ ap (λ (l : List (Request × ℕ)). slice_get l n) same ∙ slice_get-map request_on_day h n
     ∙ ap (option_map request_on_day) y.1) in
     let is : x.0 ≡ y.0 = same_entry (take n g) (take n h) t.interval x.0 y.0 before both
-    (legal_g.right n x.0 x.1) (legal_h.right n y.0 y.1) in
+    (legal_g.follow n x.0 x.1).right (legal_h.follow n y.0 y.1).right in
     x.2 ∙ ap (λ (l : List Entry). l ++ x.0 ∷ []) before ∙ ap (λ (e : Entry). take n h ++ e ∷ []) is
     ∙ sym y.2
 

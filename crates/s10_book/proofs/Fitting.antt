@@ -118,5 +118,5 @@ pub found_fits : (h : List Entry) (t : Terms) (customer number : ℕ) (o : Optio
 found_fits h t customer number None legal e = tt
 found_fits h t customer number (Some e) legal is =
     let there = found_place (has_key customer number) h e (sym is) in
-    rw (legal.right there.0 e there.1) (answer_fits (take there.0 h) e.request.customer
+    rw ((legal.follow there.0 e there.1).right) (answer_fits (take there.0 h) e.request.customer
     e.request.body e.day t.interval)

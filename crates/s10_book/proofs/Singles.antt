@@ -112,7 +112,8 @@ draw_told : (g : List Entry) (e : Entry) (es : List Entry) (t : Terms) (customer
     (day : ℕ) (x : Id) → IsLegal (g ++ e ∷ es) t → without_number e ≡ draw_done customer s c day x
     → Drawn day x ≡ draw_answer g customer s c day t.interval
 draw_told g e es t customer s c day x legal is =
-    sym (ap (λ (f : Entry). f.outcome) is) ∙ legal.right (length g) e (call_after g e es)
+    sym (ap (λ (f : Entry). f.outcome) is)
+    ∙ (legal.follow (length g) e (call_after g e es)).right
     ∙ ap (λ (l : List Entry). answer_of l e.request e.day t.interval) (take-append_seam g (e ∷ es))
     ∙ ap (λ (f : Entry). body_answer g f.request.customer f.request.body f.day t.interval) is
 

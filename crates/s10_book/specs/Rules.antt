@@ -1,7 +1,7 @@
 -- The rules: the outcome of each request, and the histories that follow them.
 use Rattle.std.specs.Prelude.{◌≡◌, ℕ, zero, suc, ◌+◌, ◌==◌, nat_lt, ◌<◌, ◌≤◌, Bool, not, ◌||◌, ◌&&◌}
 use Rattle.std.specs.Prelude.{if◌then◌else◌, List, [], ◌∷◌, ◌++◌, length, Option, Some, None}
-use Rattle.std.specs.Prelude.{is_none, find, slice_get, take, All, AllPairs, IsTrue, count_by}
+use Rattle.std.specs.Prelude.{is_none, find, slice_get, take, All, IsTrue, count_by}
 use Rattle.std.specs.List.{list_any}
 use Rattle.std.specs.Option.{option_map}
 use Rattle.s10_core.specs.declared.id.Id.{Id}
@@ -23,7 +23,7 @@ use Rattle.s10_history.specs.declared.range.Range.{Range}
 use Rattle.s10_history.specs.declared.issue.Issue.{Issue}
 use Rattle.s10_history.specs.declared.issuance.Issuance.{Issuance}
 use Rattle.s10_history.specs.Settings.{Terms}
-use Rattle.s10_history.specs.History.{has_key, find_entry, day_of, ranges_of, lies_in, is_own}
+use Rattle.s10_history.specs.History.{find_entry, day_of, ranges_of, lies_in, is_own}
 use Rattle.s10_history.specs.History.{overlaps, is_closed, is_open, ranges_open}
 use Rattle.s10_history.specs.Issues.{issues_of, last_issue_of, pick_of, id_at, serials, is_free}
 
@@ -176,11 +176,8 @@ pub record MayFollow (h : List Entry) (t : Terms) (e : Entry) : Type 0 where
   pub room : length h < t.limit
   pub right : e.outcome ≡ answer_of h e.request e.day t.interval
 
--- A history is legal if its keys are distinct and its days never decrease. It has no more calls
--- than the limit, and each outcome is the answer of the rules over the calls before it.
+-- A history is legal if it has no more calls than the limit, and each call may follow those before
+-- it.
 pub record IsLegal (h : List Entry) (t : Terms) : Type 0 where
-  pub distinct : AllPairs (λ d e. ¬ (IsTrue (has_key d.request.customer d.request.number e))) h
-  pub in_order : AllPairs (λ d e. d.day ≤ e.day) h
   pub few : length h ≤ t.limit
-  pub right : (k : ℕ) (e : Entry) → slice_get h k ≡ Some e
-      → e.outcome ≡ answer_of (take k h) e.request e.day t.interval
+  pub follow : (k : ℕ) (e : Entry) → slice_get h k ≡ Some e → MayFollow (take k h) t e

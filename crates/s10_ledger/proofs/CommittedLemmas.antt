@@ -14,6 +14,7 @@ use Rattle.s10_book.specs.Rules.{IsLegal}
 use Rattle.s10_rows.specs.declared.call_write.CallWrite.{CallWrite}
 use Rattle.s10_ledger.specs.Pending.{calls_of}
 use Rattle.s10_book.proofs.Granting.{any_find}
+use Rattle.s10_book.proofs.Legal.{legal_distinct}
 
 -- A test of the calls of these writes.
 pub any_call : (test : Entry → Bool) (ws : List CallWrite) → list_any test (calls_of ws)
@@ -68,7 +69,7 @@ committed_unless_pending committed pending t customer number false legal is =
 committed_unless_pending committed pending t customer number true legal is =
     let key = has_key customer number in
     let before : list_any key committed ≡ false = not_before customer number committed pending
-    legal.distinct (sym is) in
+    (legal_distinct (committed ++ pending) t legal) (sym is) in
     let all : list_any key (committed ++ pending) ≡ true = list_any-append key committed pending
     ∙ or_right (list_any key committed) (list_any key pending) (sym is) in (
       λ none. absurd (true≢false (sym none)),

@@ -21,7 +21,6 @@ use Rattle.s10_wire.specs.Datagrams.{Replies}
 use Rattle.s10_history.specs.declared.entry.Entry.{Entry}
 use Rattle.s10_history.specs.Settings.{Terms, AreTerms}
 use Rattle.s10_book.specs.Rules.{IsLegal, MayFollow}
-use Rattle.s10_book.proofs.Legal.{MayFollow-at}
 use Rattle.s10_rows.specs.declared.head_row.HeadRow.{HeadRow}
 use Rattle.s10_rows.specs.declared.open_fault.OpenFault.{OpenFault}
 use Rattle.s10_rows.specs.declared.open_fault.OpenFault.TheVariants.{NotALedger}
@@ -135,7 +134,7 @@ rows_right t h legal calls k row is =
     let within : k < length h = slice_get_within h k e.0 e.1 in
     let long : length (take k h) ≡ k = length-take-le k h (omega arith) in
     rw (before, e.3) (right_call t (take k h) (1 + k) e.0 e.2 (omega arith)
-    (MayFollow-at h t k e.0 legal e.1))
+    (legal.follow k e.0 e.1))
 
 -- Settings.
 

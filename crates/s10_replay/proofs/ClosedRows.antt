@@ -67,7 +67,7 @@ withdrawn_once : (h : List Entry) (t : Terms) → IsLegal h t → (i j : ℕ) (d
 withdrawn_once h t legal i j d e num lt first second db done eb again =
     let answer : withdraw_answer (take j h) e.request.customer num ≡ Withdrawn =
     ap (λ (b : Body). body_answer (take j h) e.request.customer b e.day t.interval) (sym eb)
-    ∙ sym (legal.right j e second) ∙ again in
+    ∙ sym (legal.follow j e second).right ∙ again in
     let open_then = open_before (eqb e.request.customer 0)
     (is_none (find (λ r. r.num == num) (ranges_of (take j h)))) (is_closed (take j h) num) answer in
     let closed = any_taken (λ (f : Entry). withdraws num f.request.body f.outcome) h i j d lt first

@@ -32,6 +32,7 @@ use Rattle.s10_world.specs.Agreement.{IsExecutedAtMostOnce, RevealsExecution, Is
 use Rattle.s10_world.specs.Sound.{IsSoundWorld}
 use Rattle.s10_ends.proofs.Equal.{same_request_or_not}
 use Rattle.s10_history.proofs.Numbering.{found_passes, Contains-find}
+use Rattle.s10_book.proofs.Legal.{legal_distinct}
 
 -- The history has the request, with that outcome.
 abbrev HasOutcome : List Entry → Request → Outcome → Type 0
@@ -89,7 +90,7 @@ not_before : (h : List Entry) (t : Terms) (customer number i j : ℕ) (d e : Ent
     → slice_get h i ≡ Some d → slice_get h j ≡ Some e
     → IsTrue (has_key customer number d) → IsTrue (has_key customer number e) → ¬ (i < j)
 not_before h t customer number i j d e legal at_i at_j first second before =
-    let pair = legal.distinct i j d before (slice_get_within h j e at_j) in
+    let pair = legal_distinct h t legal i j d before (slice_get_within h j e at_j) in
     let x : get_or h i d ≡ d = get_or_from_slice_get h i d d at_i in
     let y : get_or h j d ≡ e = get_or_from_slice_get h j e d at_j in
     pair (rw (x, y) (key_shared customer number d e first second))
@@ -156,7 +157,7 @@ answer_not h q (Query x) day interval = cond_not _ _ NotYours (told_not _) (λ e
 kept_not : (h : List Entry) (t : Terms) (i : ℕ) (e : Entry) → IsLegal h t → slice_get h i ≡ Some e
     → e.outcome ≢ NumberReused
 kept_not h t i e legal at reused = answer_not (take i h) e.request e.request.body e.day t.interval
-    (sym (legal.right i e at) ∙ reused)
+    (sym (legal.follow i e at).right ∙ reused)
 
 -- An element of a list has an index.
 placed : {X : Type 0} (xs : List X) (x : X) (is : Contains xs x) → slice_get xs is.0 ≡ Some x
