@@ -108,11 +108,11 @@ module _ (old new : Database) (t : Terms) (len day : ℕ) (ws : List CallWrite)
     (held : ∥ HoldsPending old t ws ∥₁)
     (made : (before after : Tables) → AreWritten ws before after → HasTables old before
     → HasTables new after) where
-  all_calls : Holds old t len day → HoldsPending old t ws
+  all_calls : Holds HasTables old t len day → HoldsPending old t ws
       → All IsCall (history_in old ++ calls_of ws)
   all_calls h p = All-append IsCall (history_in old) (calls_of ws) h.calls p.calls
 
-  stands : Holds old t len day → HoldsPending old t ws
+  stands : Holds HasTables old t len day → HoldsPending old t ws
       → StandsFor new (history_in old ++ calls_of ws) t
   stands h p = made (tables_of (history_in old) t) (tables_of (history_in old ++ calls_of ws) t)
       (all_written (history_in old) t ws p.written) h.tables

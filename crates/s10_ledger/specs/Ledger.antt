@@ -20,9 +20,9 @@ use Rattle.s10_index.specs.CallIndex.{Indexes}
 use Rattle.s10_rows.specs.CallRow.{StoredCall}
 use Rattle.s10_replay.specs.RightRows.{entry_of}
 use Rattle.s10_rows.specs.Selected.{IsCall, arrives_between}
-use Rattle.s10_rows.specs.Tables.{tables_of}
+use Rattle.s10_rows.specs.Tables.{Tables, tables_of}
 use Rattle.s10_schema.specs.Schema.{ledger_schema}
-use Rattle.s10_statements.specs.Shown.{HasOldTables, StandsFor, call_columns, call_from}
+use Rattle.s10_statements.specs.Shown.{HasTables, HasOldTables, call_columns, call_from}
 
 -- The calls with one of n successive arrivals, of which the first is the given one, in order of
 -- arrival.
@@ -80,31 +80,27 @@ ledger_code {S} store =
     })
     (λ _. refl)
 
--- The five tables stand for a history of that length, with that last day.
-pub record Holds (db : Database) (t : Terms) (len day : ℕ) : Type 0 where
-  pub tables : StandsFor db (history_in db) t
+-- Such tables stand for a history of that length, with that last day.
+pub record Holds (Has : Database → Tables → Type 0) (db : Database) (t : Terms) (len day : ℕ) :
+    Type 0 where
+  pub tables : Has db (tables_of (history_in db) t)
   pub calls : All IsCall (history_in db)
   pub len_is : len ≡ length (history_in db)
   pub day_is : day ≡ day_of (history_in db)
 
--- A database is a ledger if its history is legal and its five tables stand for it.
-pub record IsLedger (db : Database) (t : Terms) (len day : ℕ) : Type 0 where
+-- A database is a ledger in such tables if its history is legal and the tables stand for it.
+pub record IsLedgerIn (Has : Database → Tables → Type 0) (db : Database) (t : Terms)
+    (len day : ℕ) : Type 0 where
   pub legal : IsLegal (history_in db) t
-  pub held : ∥ Holds db t len day ∥₁
+  pub held : ∥ Holds Has db t len day ∥₁
 
--- The four tables of an earlier build stand for a history of that length, with that last day, in
--- which no range is closed.
-pub record HoldsOld (db : Database) (t : Terms) (len day : ℕ) : Type 0 where
-  pub tables : HasOldTables db (tables_of (history_in db) t)
-  pub calls : All IsCall (history_in db)
-  pub len_is : len ≡ length (history_in db)
-  pub day_is : day ≡ day_of (history_in db)
+-- A database is a ledger: in the five tables.
+abbrev pub IsLedger : Database → Terms → ℕ → ℕ → Type 0
+IsLedger db t len day = IsLedgerIn HasTables db t len day
 
--- A database is a ledger of an earlier build if its history is legal and its four tables stand for
--- it.
-pub record IsOldLedger (db : Database) (t : Terms) (len day : ℕ) : Type 0 where
-  pub legal : IsLegal (history_in db) t
-  pub held : ∥ HoldsOld db t len day ∥₁
+-- A database is a ledger of an earlier build: in its four tables.
+abbrev pub IsOldLedger : Database → Terms → ℕ → ℕ → Type 0
+IsOldLedger db t len day = IsLedgerIn HasOldTables db t len day
 
 -- A database is a ledger of this build or of an earlier one.
 abbrev pub IsAnyLedger : Database → Terms → ℕ → ℕ → Type 0

@@ -6,6 +6,7 @@ use Rattle.sqlite_value.specs.declared.value.Value.TheVariants.{Null, Int, Real,
 use Rattle.sqlite_value.specs.Order.{Row, column}
 use Rattle.sqlite_trees.specs.Tree.{rowid}
 use Rattle.sqlite_trees.specs.View.{is_int}
+use Rattle.sqlite_schema.specs.declared.schema.Schema.{Schema}
 use Rattle.sqlite.specs.Effect.{Database}
 use Rattle.s10_history.specs.declared.entry.Entry.{Entry}
 use Rattle.s10_history.specs.Settings.{Terms}
@@ -146,27 +147,27 @@ closed_columns r = columns_in closed_table r
 abbrev pub HasIntegerRowid : Row → Type 0
 HasIntegerRowid r = IsTrue (is_int (rowid r))
 
--- A database has tables if it declares the five of a ledger, and its rows are these. The rowids of
--- serials are integers, and no statement shows them as a column.
-pub record HasTables (db : Database) (tables : Tables) : Type 0 where
-  pub schema : IsClosedSchema db.schema
+-- A database has tables, with a schema and rows of closed as these say, if its rows are these. The
+-- rowids of serials are integers, and no statement shows them as a column.
+pub record HasTablesBy (IsSchema : Schema → Type 0) (AreClosed : List ClosedRow → Type 0)
+    (db : Database) (tables : Tables) : Type 0 where
+  pub schema : IsSchema db.schema
   pub heads : HaveSameRows (map shown_head tables.heads) (map head_columns (db.trees 0))
   pub calls : HaveSameRows (map shown_call tables.calls) (map call_columns (db.trees 1))
   pub ranges : HaveSameRows (map shown_range tables.ranges) (map range_columns (db.trees 3))
   pub serials : HaveSameRows (map shown_serial tables.serials) (map serial_columns (db.trees 4))
   pub numbered : AllByRecursion HasIntegerRowid (db.trees 4)
-  pub closed : HaveSameRows (map shown_closed tables.closed) (map closed_columns (db.trees 6))
+  pub closed : AreClosed tables.closed
+
+-- A database has tables if it declares the five of a ledger, and its rows are these.
+abbrev pub HasTables : Database → Tables → Type 0
+HasTables db tables = HasTablesBy IsClosedSchema
+    (λ rows. HaveSameRows (map shown_closed rows) (map closed_columns (db.trees 6))) db tables
 
 -- A database has old tables if it declares the four of an earlier build and nothing else, and its
 -- rows are these. No range is closed.
-pub record HasOldTables (db : Database) (tables : Tables) : Type 0 where
-  pub schema : db.schema ≡ four_tables
-  pub heads : HaveSameRows (map shown_head tables.heads) (map head_columns (db.trees 0))
-  pub calls : HaveSameRows (map shown_call tables.calls) (map call_columns (db.trees 1))
-  pub ranges : HaveSameRows (map shown_range tables.ranges) (map range_columns (db.trees 3))
-  pub serials : HaveSameRows (map shown_serial tables.serials) (map serial_columns (db.trees 4))
-  pub numbered : AllByRecursion HasIntegerRowid (db.trees 4)
-  pub closed : tables.closed ≡ []
+abbrev pub HasOldTables : Database → Tables → Type 0
+HasOldTables db tables = HasTablesBy (λ s. s ≡ four_tables) (λ rows. rows ≡ []) db tables
 
 -- A database stands for a history if its five tables have the rows of the history and no others.
 abbrev pub StandsFor : Database → List Entry → Terms → Type 0

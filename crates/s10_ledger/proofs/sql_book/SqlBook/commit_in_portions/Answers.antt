@@ -1,7 +1,5 @@
-use Rattle.std.proofs.Common.{◌∙◌, ap, subst, arith, refl}
+use Rattle.std.proofs.Common.{◌∙◌, arith, refl}
 use Rattle.s10_book.proofs.Calls.{CommitsSome-trans, commits_unchanged}
-use Rattle.s10_ledger.specs.Ledger.{Ledger, CommitsSomeOf}
-use Rattle.s10_ledger.specs.Pending.{calls_of}
 use Rattle.s10_ledger.proofs.BookLemmas.{commits_counted}
 use Rattle.s10_ledger.proofs.PendingLemmas.{ledger_of}
 use Rattle.s10_ledger.proofs.sql_book.SqlBook.commit_in_portions.Goals as goal
