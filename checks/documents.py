@@ -635,6 +635,7 @@ def run_pages(pages):
         *run_tour_and_ledger(pages),
         *run_alone(pages["docs/OPERATING.md"], OPERATING),
         *run_alone(pages["docs/SCALING.md"], SCALING),
+        *run_alone(pages["docs/MIGRATING.md"], {}),
         *run_contrib(pages["contrib/README.md"]),
     ]
 
