@@ -91,7 +91,7 @@ def public_functions():
 
 
 def theorem_counts():
-    """The numbers of checks/definition_lines.py: of the first two functions together, and of each."""
+    """The numbers of checks/definition_lines.py: of the first two functions together, of each, and of what the program serves."""
     each, (clause_lines, both) = definition_lines.main_theorem()
     counts = {
         "clause-lines": clause_lines,
@@ -103,6 +103,12 @@ def theorem_counts():
     for function, lines, cited in each:
         name = function.split("::")[0].lower().replace("_", "-")
         counts[f"{name}-clause-lines"] = lines
+        counts[f"{name}-definitions"] = len(cited.names())
+        counts[f"{name}-definition-lines"] = cited.lines()
+        counts[f"{name}-types"] = len(cited.types)
+        counts[f"{name}-kit-words"] = len(cited.kit)
+    for function, cited in definition_lines.served().items():
+        name = "served-by-" + function.replace("_", "-")
         counts[f"{name}-definitions"] = len(cited.names())
         counts[f"{name}-definition-lines"] = cited.lines()
         counts[f"{name}-types"] = len(cited.types)

@@ -73,7 +73,7 @@ for most in 0 30; do
     [ "$("$s10" audit --ledger ledger)" = 'ledger ok 1' ] || fail "past $most days a call was executed"
 done
 
-# A given day is not held to the guard.
+# The option does not check a given day.
 drawn 1 --most-days-ahead 30 --day "$before"
 drawn 2 --most-days-ahead 31
 grep -q " day $today " reply || fail "the reply is $(cat reply)"

@@ -1,7 +1,8 @@
 #!/usr/bin/env python3
 """Counts the lines of definitions that a reader must read to know what the main theorem says: the definitions in specs/ that the
 clauses of Server::run and of World::run cite, and those that these cite in turn. The same for serve_turns, which says what the
-program serves, and for run_serve, which says it of a ledger in a file.
+program serves, and for run_serve, which says it of a ledger in a file: for all their clauses, and for what is served alone. That is
+one clause or field of each, without printing, days, the guard, the ends and refusals.
 
     python3 checks/definition_lines.py           how many definitions and lines, for each function and for the first two
     python3 checks/definition_lines.py --names   also the definitions file by file, the types and the kit's words
@@ -16,6 +17,7 @@ import sys
 CRATES = os.path.join(os.path.dirname(os.path.realpath(__file__)), "..", "crates")
 FUNCTIONS = [("s10_ends", "server.rt", "Server::run"), ("s10_world", "world.rt", "World::run")]
 SERVING = [("s10_jobs", "turns.rt", "serve_turns"), ("s10_host", "serve.rt", "run_serve")]
+SERVED = {"serve_turns": ("s10_jobs", "Serving", "ServesLink"), "run_serve": ("s10_host", "Jobs", "ServesFiles")}
 USE = re.compile(r"use Rattle\.(s10_\w+|std|sqlite\w*)\.specs\.([\w.]+?)(?:\.\{([^}]*)\}| as (\w+))")
 HEAD = re.compile(r"(?:pub )?(?:abbrev|unfoldable|record|data) (?:pub )?([\w']+)")
 HEAD_IN_MODULE = re.compile(r"  (?:pub (?:record|data)|(?:abbrev|unfoldable) pub) ([\w']+)")
@@ -140,6 +142,14 @@ def main_theorem():
     return each, (clause_lines, both)
 
 
+def served():
+    """What is cited by the clause or field that says what is served, for each function that has one."""
+    found = {function: Cited() for function in SERVED}
+    for function, cited in found.items():
+        cite(SERVED[function], cited)
+    return found
+
+
 def print_names(cited):
     for place in sorted({target[:2] for target in cited.names()}):
         names = [name for crate, file, name in cited.names() if (crate, file) == place]
@@ -152,6 +162,8 @@ def main():
     each, (clause_lines, both) = main_theorem()
     for function, lines, cited in each:
         print(f"{function}: {lines} lines of clauses, {len(cited.names())} definitions of {cited.lines()} lines")
+    for function, cited in served().items():
+        print(f"what {function} serves, {SERVED[function][2]}: {len(cited.names())} definitions of {cited.lines()} lines")
     print(f"the first two: {clause_lines} lines of clauses, {len(both.names())} definitions of {both.lines()} lines,", end=" ")
     print(f"over {len(both.types)} types and {len(both.kit)} words of the kit")
     if "--names" in sys.argv[1:]:
