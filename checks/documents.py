@@ -530,6 +530,28 @@ def find_ranges_granted_twice(room, command):
 SCALING = {"for ledger in": find_ranges_granted_twice}
 
 
+# docs/MIGRATING.md
+
+
+def find_shared_serials(room, command):
+    """Runs the command over the table of the page, in which no two rows share a serial, and over one in which some do."""
+    run_and_compare(room, command)
+    table, shared = room.folder / "old.csv", ["8,RA,GB,50,60,50", "9,RA,GB,99,120,99"]
+    rows = table.read_text(encoding="utf-8")
+    table.write_text("\n".join([shared[1], rows.rstrip(), shared[0], ""]), encoding="utf-8")
+    compare(command.where(), shared, room.run(command.text)[1])
+    table.write_text(rows, encoding="utf-8")
+
+
+def grant_twice(room, command):
+    """Grants the rows of the table, and once more, which changes nothing."""
+    run_and_compare(room, command)
+    run_and_compare(room, command)
+
+
+MIGRATING = {"sort -t,": find_shared_serials, "while read": grant_twice}
+
+
 # contrib/README.md
 
 
@@ -635,7 +657,7 @@ def run_pages(pages):
         *run_tour_and_ledger(pages),
         *run_alone(pages["docs/OPERATING.md"], OPERATING),
         *run_alone(pages["docs/SCALING.md"], SCALING),
-        *run_alone(pages["docs/MIGRATING.md"], {}),
+        *run_alone(pages["docs/MIGRATING.md"], MIGRATING),
         *run_contrib(pages["contrib/README.md"]),
     ]
 
