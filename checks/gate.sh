@@ -28,15 +28,18 @@ library=$room/libs10_c.a
 chosen=()
 minutes=${GATE_MINUTES:-170}
 passed=0 failed=0 skipped=0 running=
+# The check that runs beside others, if there is one: its process, when it began, its name and its limit.
+beside=()
 # A line for each check that was skipped, and for each part of one.
 skips=()
 
-# Ends the check that runs, and removes what is ours.
+# Ends the checks that run, and removes what is ours.
 end() {
-    if [ -n "$running" ]; then
-        kill "$running" 2>/dev/null
-        wait "$running" 2>/dev/null
-    fi
+    local process
+    for process in $running ${beside[0]:-}; do
+        kill "$process" 2>/dev/null
+        wait "$process" 2>/dev/null
+    done
     rm -rf --one-file-system "$room"
 }
 
@@ -85,24 +88,44 @@ skip() { # NAME SECONDS WHY
     fi
 }
 
-# Runs a check for at most LIMIT seconds, and prints its result. TOOLS are what it needs.
-check() { # NAME LIMIT TOOLS COMMAND..
-    local name=$1 limit=$2 missing start status=0
-    is_chosen "$name" || return
+# Whether a check is asked for and can be run. One that is asked for and cannot is skipped. TOOLS are what it needs.
+can_run() { # NAME LIMIT TOOLS
+    local missing
+    is_chosen "$1" || return
     # Word splitting separates the tools.
     # shellcheck disable=SC2086
     missing=$(lacking $3)
-    if [ -z "$missing" ] && [ $((SECONDS + limit)) -gt $((minutes * 60)) ] && ! must_run "$name"; then missing='time left'; fi
-    if [ -n "$missing" ]; then
-        skip "$name" 0 "no $missing"
-        return
-    fi
-    start=$SECONDS
-    timeout --kill-after=30 "$limit" "${@:4}" </dev/null >"$room/output" 2>&1 &
+    if [ -z "$missing" ] && [ $((SECONDS + $2)) -gt $((minutes * 60)) ] && ! must_run "$1"; then missing='time left'; fi
+    [ -z "$missing" ] || { skip "$1" 0 "no $missing"; return 1; }
+}
+
+# Runs a check for at most LIMIT seconds, and prints its result.
+check() { # NAME LIMIT TOOLS COMMAND..
+    local start=$SECONDS status=0
+    can_run "$1" "$2" "$3" || return
+    timeout --kill-after=30 "$2" "${@:4}" </dev/null >"$room/output" 2>&1 &
     running=$!
     wait "$running" || status=$?
     running=
-    judge "$name" $((SECONDS - start)) "$status" "$limit"
+    judge "$1" $((SECONDS - start)) "$status" "$2"
+    [ ${#beside[@]} -eq 0 ] || kill -0 "${beside[0]}" 2>/dev/null || end_beside
+}
+
+# Begins a check that goes on beside those that follow, with what these leave of the processors.
+begin_beside() { # NAME LIMIT TOOLS COMMAND..
+    can_run "$1" "$2" "$3" || return
+    nice timeout --kill-after=30 "$2" "${@:4}" </dev/null >"$room/beside" 2>&1 &
+    beside=("$!" "$SECONDS" "$1" "$2")
+}
+
+# Waits for the check that was begun beside others, and prints its result.
+end_beside() {
+    local status=0
+    [ ${#beside[@]} -ne 0 ] || return
+    wait "${beside[0]}" || status=$?
+    mv "$room/beside" "$room/output"
+    judge "${beside[2]}" $((SECONDS - beside[1])) "$status" "${beside[3]}"
+    beside=()
 }
 
 # Prints the result of a check by its status and its output.
@@ -134,7 +157,8 @@ run_checks() {
     unset S10 S10_LIBRARY LIBRARY BROWSER MAINTAINER SOURCE_DATE_EPOCH PYTHONPATH GIT_DIR GIT_WORK_TREE GIT_INDEX_FILE
     export LC_ALL=C.UTF-8 PYTHONDONTWRITEBYTECODE=1
     cd "$room" || return
-    check front_door 5400 'git rattle make flock' bash "$checks/front_door.sh"
+    # It keeps the processors busy for a quarter of an hour and more. The others need less than one of them.
+    begin_beside front_door 7200 'git rattle make flock' bash "$checks/front_door.sh"
     check counts 300 python3 python3 "$checks/counts.py"
     check build_log 600 'python3 make flock' python3 "$checks/build_log.py"
     check texts 300 'program python3' python3 "$contrib/write_texts.py" --check "$s10"
@@ -170,12 +194,20 @@ run_checks() {
     check notes_files 900 'program python3' python3 "$checks/notes_files.py" "$s10" ${draw:+"$draw"}
     check notes_examples 900 'program python3' python3 "$checks/notes_examples.py" "$s10" ${draw:+"$draw"}
     check counter_page 1200 'library python3 rt' bash "$checks/counter_page.sh"
+    end_beside
+}
+
+# Prints how many provers may run at the same time: one for each processor, and one for each 5 GB of free memory. The largest
+# takes 7 GB, most take 1 to 3. By itself `rt ci` reserves two to three times as much, and leaves processors idle.
+lanes() {
+    awk -v processors="$(nproc)" '/^MemAvailable:/ { lanes = int($2 / 5e6); if (lanes > processors) lanes = processors
+        print (lanes < 1 ? 1 : lanes) }' /proc/meminfo
 }
 
 # Runs `rt ci`. Sets its status, and adds what it counted.
 prove() {
     local last start=$SECONDS
-    (cd "$top" && PYTHONUNBUFFERED=1 rt ci) | tee "$room/proved"
+    (cd "$top" && PYTHONUNBUFFERED=1 RT_JOBS=${RT_JOBS:-$(lanes)} rt ci) | tee "$room/proved"
     status=${PIPESTATUS[0]}
     last=$(sed -nE 's/^([0-9]+) passed, ([0-9]+) failed$/\1 \2/p' "$room/proved" | tail -n 1)
     [ -n "$last" ] || last='0 1'
