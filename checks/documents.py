@@ -62,6 +62,8 @@ TOOLS = {
     "man ": ("man", "groff"),
     "python3 test_completions.py": ("zsh", "fish"),
     "python3 test_dissector.py": ("tshark",),
+    "python3 label.py": ("zint",),
+    "rsvg-convert": ("zint", "rsvg-convert", "zbarimg"),
 }
 
 # The pages of the C library, which takes minutes to prove.

@@ -167,6 +167,7 @@ run_checks() {
     check file_size_limit 600 'program python3' python3 "$checks/file_size_limit.py" "$s10"
     check completions 600 'program python3' env S10="$s10" python3 "$contrib/test_completions.py"
     check ledger_page 600 'program python3' env S10="$s10" python3 "$contrib/test_ledger_page.py"
+    check label 300 'program python3 zint rsvg-convert zbarimg' env S10="$s10" python3 "$contrib/test_label.py"
     check dissector 900 'program python3 tshark' env S10="$s10" python3 "$contrib/test_dissector.py"
     check pages 1800 'program python3' python3 "$checks/documents.py" "$s10"
     check damaged 1800 'program python3' python3 "$checks/damaged.py" "$s10" 2000

@@ -23,6 +23,10 @@ strace strace
 unshare util-linux
 chromium chromium
 tshark tshark
+zint zint
+rsvg-convert librsvg2-bin
+zbarimg zbar-tools
+pdftoppm poppler-utils
 zsh zsh
 fish fish
 mandoc mandoc

@@ -70,7 +70,7 @@ END
 
 # Prints the pages of the repository, each with its path from the top, and what they link to.
 pages() {
-    (cd "$root" && printf '%s\n' *.md docs/*.md contrib/README.md contrib/*/README.md contrib/page/s10.html contrib/page/s10.png contrib/ledger_page.png)
+    (cd "$root" && printf '%s\n' *.md docs/*.md contrib/README.md contrib/*/README.md contrib/page/s10.html contrib/page/s10.png contrib/ledger_page.png contrib/label.png)
 }
 
 # check_links: fails if a page of the package names a page, or links to a file, that is not in the list on standard input. The
@@ -185,7 +185,7 @@ make_program() {
         put 644 "$root/$page" "$doc/$page"
     done
     check_links < <(cd "$tree$doc" && find . -type f -printf '%P\n')
-    for piece in python/s10client.py python/libs10.py python/test_s10client.py turns.awk ledger_page.py health; do
+    for piece in python/s10client.py python/libs10.py python/test_s10client.py turns.awk ledger_page.py label.py health; do
         put 644 "$contrib/$piece" "$doc/examples/$(basename "$piece")"
     done
     write_scripts
