@@ -96,6 +96,7 @@ table() {
         }' | sort | tr -d '~'
 }
 
+[ $# -eq 0 ] || { echo 'gate_time: it takes no words' >&2; exit 2; }
 cd "$root" || exit
 start=$SECONDS
 setsid bash .ci/run </dev/null >"$log" 2>&1 &
