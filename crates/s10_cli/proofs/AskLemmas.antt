@@ -5,8 +5,9 @@ use Rattle.std.proofs.Common.{subst, nat_eq, slice_index, ◌||◌, inl, inr}
 use Rattle.clap.specs.Words.{Row, Text, fault_of, subcommand_of}
 use Rattle.s10_grammar.specs.Grammar.{grammar}
 use Rattle.s10_jobs.specs.declared.job.Job.{Job}
-use Rattle.s10_jobs.specs.declared.job.Job.TheVariants.{Create, Serve, Ask, AskByNotes, Notes}
+use Rattle.s10_jobs.specs.declared.job.Job.TheVariants.{Create, Serve, Ask, Notes}
 use Rattle.s10_jobs.specs.declared.job.Job.TheVariants.{Again, Report, Audit, Snapshot, Copy, Loop}
+use Rattle.s10_jobs.specs.declared.asker.Asker.{Asker}
 use Rattle.s10_jobs.specs.declared.look.Look.TheVariants.{Report as ReportOf, Audit as AuditOf}
 use Rattle.s10_reports.specs.declared.issue_filter.IssueFilter.{IssueFilter}
 use Rattle.s10_jobs.specs.declared.report_kind.ReportKind.{ReportKind}
@@ -14,14 +15,12 @@ use Rattle.s10_jobs.specs.declared.report_kind.ReportKind.TheVariants.{Ranges, I
 use Rattle.s10_jobs.specs.declared.body_words.BodyWords.{BodyWords}
 use Rattle.s10_jobs.specs.declared.body_words.BodyWords.TheVariants.{Grant, Draw, DrawMany}
 use Rattle.s10_jobs.specs.declared.body_words.BodyWords.TheVariants.{Withdraw, Void, Query}
-use Rattle.s10_cli.specs.Options.{AreCallOptions, HasIssueFilter}
+use Rattle.s10_cli.specs.Options.{IsAsker, HasIssueFilter}
 use Rattle.s10_cli.specs.Jobs.{AsksFor, AsksInWords, AsksByWords, AsksOrFails, IsNamedJob, status_in}
-use Rattle.s10_cli.specs.Jobs.{IsBodyOf, IsCallOf, IsKind, is_of_the_post}
+use Rattle.s10_cli.specs.Jobs.{IsBodyOf, IsKind, is_of_the_post}
 use Rattle.s10_cli.specs.CommandLine.{EndsLine}
 use Rattle.s10_cli.specs.declared.line_end.LineEnd.{LineEnd}
 use Rattle.s10_cli.specs.declared.line_end.LineEnd.TheVariants.{Ended, Asks}
-use Rattle.s10_cli.specs.declared.asker.Asker.TheVariants.{Numbered, Noted}
-use Rattle.s10_cli.specs.declared.call_options.CallOptions.{CallOptions}
 
 -- The first letter is that of a subcommand that calls a server.
 abbrev pub asks_server : Text → Bool
@@ -51,37 +50,30 @@ same_side name rows (Void id) asks =
 same_side name rows (Query id) asks =
     subst (λ (n : Text). false ≡ is_posts n) (sym asks.0) refl
 
--- Without the options of a call, no call is asked for.
-no_call : (rows : List Row) (name : Text)
-    → ((options : CallOptions) → ¬ AreCallOptions (is_posts name) rows options)
-    → (options : CallOptions) (body : BodyWords) → ¬ IsCallOf name rows options body
-no_call rows name none options body asks = none options
-    (subst (λ (b : Bool). AreCallOptions b rows options) (same_side name rows body asks.1) asks.0)
-
-pub headless : (rows : List Row) (name : Text)
-    → ((options : CallOptions) → ¬ AreCallOptions (is_posts name) rows options)
-    → asks_server name ≡ true → (job : Job) → ¬ AsksFor name rows job
-headless rows name none is (Ask q) asks = no_call rows name none
-    (record { to = q.to; asker = Numbered q.customer q.number; tries = q.tries }) q.body asks
-headless rows name none is (AskByNotes q) asks = no_call rows name none
-    (record { to = q.to; asker = Noted q.notes; tries = q.tries }) q.body asks
-headless rows name none is (Create ledger settings) asks = other _ _ asks.0 is refl
-headless rows name none is (Serve ledger bind options until) asks = other _ _ asks.0 is refl
-headless rows name none is (Notes file customer first lst) asks = other _ _ asks.0 is refl
-headless rows name none is (Again to notes tries) asks = other _ _ asks.0 is refl
-headless rows name none is (Report ledger (Ranges filter format) day) asks = other _ _ asks.0.0 is
+-- Without what gives a request its number, no call is asked for.
+pub no_asker : (rows : List Row) (name : Text)
+    → ((asker : Asker) → ¬ IsAsker (is_posts name) rows asker) → asks_server name ≡ true
+    → (job : Job) → ¬ AsksFor name rows job
+no_asker rows name none is (Ask question) asks = none question.asker
+    (subst (λ (b : Bool). IsAsker b rows question.asker)
+    (same_side name rows question.body asks.3) asks.2)
+no_asker rows name none is (Create ledger settings) asks = other _ _ asks.0 is refl
+no_asker rows name none is (Serve ledger bind options until) asks = other _ _ asks.0 is refl
+no_asker rows name none is (Notes file customer first lst) asks = other _ _ asks.0 is refl
+no_asker rows name none is (Again to notes tries) asks = other _ _ asks.0 is refl
+no_asker rows name none is (Report ledger (Ranges filter format) day) asks = other _ _ asks.0.0 is
     refl
-headless rows name none is (Report ledger (Issues asked) day) asks = other _ _ asks.0.0 is refl
-headless rows name none is (Report ledger Info day) asks = other _ _ asks.0 is refl
-headless rows name none is (Audit ledger) asks = other _ _ asks.0 is refl
-headless rows name none is (Snapshot ledger (ReportOf (Ranges filter format) day)) asks =
+no_asker rows name none is (Report ledger (Issues asked) day) asks = other _ _ asks.0.0 is refl
+no_asker rows name none is (Report ledger Info day) asks = other _ _ asks.0 is refl
+no_asker rows name none is (Audit ledger) asks = other _ _ asks.0 is refl
+no_asker rows name none is (Snapshot ledger (ReportOf (Ranges filter format) day)) asks =
     other _ _ asks.0.0 is refl
-headless rows name none is (Snapshot ledger (ReportOf (Issues asked) day)) asks =
+no_asker rows name none is (Snapshot ledger (ReportOf (Issues asked) day)) asks =
     other _ _ asks.0.0 is refl
-headless rows name none is (Snapshot ledger (ReportOf Info day)) asks = other _ _ asks.0 is refl
-headless rows name none is (Snapshot ledger AuditOf) asks = other _ _ asks.0 is refl
-headless rows name none is (Copy ledger to) asks = other _ _ asks.0 is refl
-headless rows name none is (Loop day) asks = other _ _ asks.0 is refl
+no_asker rows name none is (Snapshot ledger (ReportOf Info day)) asks = other _ _ asks.0 is refl
+no_asker rows name none is (Snapshot ledger AuditOf) asks = other _ _ asks.0 is refl
+no_asker rows name none is (Copy ledger to) asks = other _ _ asks.0 is refl
+no_asker rows name none is (Loop day) asks = other _ _ asks.0 is refl
 
 -- Without a filter that the options give, no report is asked for.
 pub no_kind : (rows : List Row) → ((filter : IssueFilter) → ¬ HasIssueFilter rows filter)

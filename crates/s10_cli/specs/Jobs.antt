@@ -4,8 +4,9 @@ use Rattle.std.specs.Prelude.{option_map, is_some, ◌||◌, ◌⊎◌, ⊤}
 use Rattle.clap.specs.Words.{Row, Text, fault_of, subcommand_of}
 use Rattle.s10_reports.specs.declared.issue_filter.IssueFilter.{IssueFilter}
 use Rattle.s10_jobs.specs.declared.job.Job.{Job}
-use Rattle.s10_jobs.specs.declared.job.Job.TheVariants.{Create, Serve, Ask, AskByNotes, Notes}
+use Rattle.s10_jobs.specs.declared.job.Job.TheVariants.{Create, Serve, Ask, Notes}
 use Rattle.s10_jobs.specs.declared.job.Job.TheVariants.{Again, Report, Audit, Snapshot, Copy, Loop}
+use Rattle.s10_jobs.specs.declared.question.Question.{Question}
 use Rattle.s10_jobs.specs.declared.look.Look.TheVariants.{Report as ReportOf, Audit as AuditOf}
 use Rattle.s10_jobs.specs.declared.report_kind.ReportKind.{ReportKind}
 use Rattle.s10_jobs.specs.declared.report_kind.ReportKind.TheVariants.{Ranges, Issues, Info}
@@ -14,10 +15,8 @@ use Rattle.s10_jobs.specs.declared.body_words.BodyWords.TheVariants.{Grant, Draw
 use Rattle.s10_jobs.specs.declared.body_words.BodyWords.TheVariants.{Withdraw, Void, Query}
 use Rattle.s10_grammar.specs.Grammar.{grammar}
 use Rattle.s10_cli.specs.Options.{Finds, HasText, HasNumber, HasSerial, HasSettings, HasCount}
-use Rattle.s10_cli.specs.Options.{HasTries, HasTurnOptions, IsFlag, AreCallOptions}
+use Rattle.s10_cli.specs.Options.{HasTries, HasTurnOptions, IsFlag, IsAsker}
 use Rattle.s10_cli.specs.Options.{HasFormat, HasIssueFilter, HasRangeFilter}
-use Rattle.s10_cli.specs.declared.asker.Asker.TheVariants.{Numbered, Noted}
-use Rattle.s10_cli.specs.declared.call_options.CallOptions.{CallOptions}
 use Rattle.s10_cli.specs.declared.line_end.LineEnd.{LineEnd}
 use Rattle.s10_cli.specs.declared.line_end.LineEnd.TheVariants.{Ended, Asks}
 
@@ -49,10 +48,11 @@ is_of_the_post (DrawMany service country count) = false
 is_of_the_post (Void id) = false
 is_of_the_post (Query id) = false
 
--- The options and the body of a call.
-abbrev pub IsCallOf : List ℕ → List Row → CallOptions → BodyWords → Type 0
-IsCallOf name rows options body = AreCallOptions (is_of_the_post body) rows options
-    × IsBodyOf name rows body
+-- The request that a subcommand asks for.
+abbrev pub IsCallOf : List ℕ → List Row → Question → Type 0
+IsCallOf name rows question = HasText rows (codes "to") question.to.now
+    × HasTries rows question.tries × IsAsker (is_of_the_post question.body) rows question.asker
+    × IsBodyOf name rows question.body
 
 -- A day of issues was given.
 abbrev pub has_days : IssueFilter → Bool
@@ -79,11 +79,7 @@ AsksFor name rows (Serve ledger bind options until) = (name ≡ codes "serve")
     × HasText rows (codes "ledger") ledger.now
     × HasText rows (codes "bind") bind.now × HasTurnOptions rows options
     × Finds (HasText rows (codes "until")) (option_map (λ path. path.now) until)
-AsksFor name rows (Ask q) =
-    IsCallOf name rows (record { to = q.to; asker = Numbered q.customer q.number; tries = q.tries })
-    q.body
-AsksFor name rows (AskByNotes q) =
-    IsCallOf name rows (record { to = q.to; asker = Noted q.notes; tries = q.tries }) q.body
+AsksFor name rows (Ask question) = IsCallOf name rows question
 AsksFor name rows (Notes file customer first lst) = (name ≡ codes "notes")
     × HasText rows (codes "file") file.now × HasNumber rows (codes "customer") customer
     × HasNumber rows (codes "first") first × HasNumber rows (codes "last") lst

@@ -14,9 +14,8 @@ use Rattle.s10_reports.specs.declared.issue_filter.IssueFilter.{IssueFilter}
 use Rattle.s10_reports.specs.declared.report_format.ReportFormat.{ReportFormat}
 use Rattle.s10_reports.specs.declared.report_format.ReportFormat.TheVariants.{Lines, Csv}
 use Rattle.s10_jobs.specs.declared.turn_options.TurnOptions.{TurnOptions}
-use Rattle.s10_cli.specs.declared.asker.Asker.{Asker}
-use Rattle.s10_cli.specs.declared.asker.Asker.TheVariants.{Numbered, Noted}
-use Rattle.s10_cli.specs.declared.call_options.CallOptions.{CallOptions}
+use Rattle.s10_jobs.specs.declared.asker.Asker.{Asker}
+use Rattle.s10_jobs.specs.declared.asker.Asker.TheVariants.{Numbered, Noted}
 use Rattle.s10_cli.specs.declared.parts.Parts.{Parts}
 
 -- The rows that were found.
@@ -114,8 +113,3 @@ IsAsker is_post rows (Numbered customer number) = IsCustomer is_post rows custom
 IsAsker is_post rows (Noted notes) = HasText rows (codes "notes") notes.now
     × ((number : ℕ) → ¬ HasNumber rows (codes "number") number)
     × ((customer : ℕ) → ¬ HasNumber rows (codes "customer") customer)
-
--- The options of a request, by the post or by a customer.
-abbrev pub AreCallOptions : Bool → List Row → CallOptions → Type 0
-AreCallOptions is_post rows options = HasText rows (codes "to") options.to.now
-    × HasTries rows options.tries × IsAsker is_post rows options.asker

@@ -3,19 +3,11 @@ ghost use Rattle.clap.specs.Words.{subcommand_rows_of};
 ghost use Rattle.s10_cli.specs.Options.{rows_in, Finds};
 ghost use Rattle.s10_cli.specs.Jobs.{AsksFor, IsNamedJob};
 
-use crate::again_job::again_job;
-use crate::audit_job::audit_job;
-use crate::copy_job::copy_job;
-use crate::create_job::create_job;
-use crate::draw_job::draw_job;
-use crate::grant_job::grant_job;
-use crate::loop_job::loop_job;
-use crate::notes_job::notes_job;
-use crate::query_job::query_job;
-use crate::report_job::{info_job, report_job};
-use crate::serve_job::serve_job;
-use crate::void_job::void_job;
-use crate::withdraw_job::withdraw_job;
+use crate::call_jobs::{draw_job, grant_job, query_job, void_job, withdraw_job};
+use crate::ledger_jobs::{
+    audit_job, copy_job, create_job, info_job, loop_job, report_job, serve_job,
+};
+use crate::notes_jobs::{again_job, notes_job};
 use clap::ArgMatches;
 use s10_jobs::Job;
 

@@ -52,24 +52,21 @@ module _ {N : Type 0} (held : N → NotesState) (may_find : N → NotesState →
   )
 
   -- A call whose reply is recorded.
-  pub asked_and_recorded : (q : Request) (old new : N) (t t' : Trace) (to : Peer) (tries count : ℕ)
-      (u v w : Option (List ℕ)) (result : Result JobStatus WriteFault) (client left : ClientState)
-      (called : Result Reply CallFault) (reply : Reply) (status : JobStatus)
-      → called ≡ Ok reply → client ≡ new_client q.customer q.number q.number → count ≡ tries
-      → Calls client left t t' to q.body count called
+  pub asked_and_recorded : (q : Request) (old new : N) (t t' : Trace) (to : Peer) (tries : ℕ)
+      (u v w : Option (List ℕ)) (result : Result JobStatus WriteFault) (left : ClientState)
+      (called : Result Reply CallFault) (reply : Reply) (status : JobStatus) → called ≡ Ok reply
+      → Calls (new_client q.customer q.number q.number) left t t' to q.body tries called
       → (status ≡ asked_status called) × Appends u v (asked_line called)
       → RecordsReply held may_find status [] old new v w result
       → AsksRequest held may_find q old new t t' to tries u w result
-  asked_and_recorded q old new t t' to tries count u v w result client left called reply status is
-      begins few calls shown records = record {
+  asked_and_recorded q old new t t' to tries u v w result left called reply status is calls shown
+      records = record {
         left = left;
         called = Ok reply;
         calls =
             let P : Result Reply CallFault → Type 0 = λ r. Calls (new_client q.customer q.number q.number)
             left t t' to q.body tries r in
-            let Q : ClientState → Type 0 = λ c. Calls c left t t' to q.body tries called in
-            let R : ℕ → Type 0 = λ n. Calls client left t t' to q.body n called in
-            subst P is (subst Q begins (subst R few calls));
+            subst P is calls;
         records =
             let T : Result Reply CallFault → Type 0 = λ r. Appends u v (asked_line r) in
             let V : JobStatus → Type 0 = λ s. RecordsReply held may_find s [] old new v w result in

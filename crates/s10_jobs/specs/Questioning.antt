@@ -35,8 +35,8 @@ IsUnasked question status line =
 -- The words were asked in one call of a new client of the customer, with the question's number.
 -- That is all that this link carried, which is bound at any address of this machine. The line was
 -- written unless the writer failed.
-pub record IsAsked (question : Question) (link : BoundLink) (old new : Option (List ℕ))
-    (result : Result JobStatus WriteFault) : Type 0 where
+pub record IsAsked (customer number : ℕ) (question : Question) (link : BoundLink)
+    (old new : Option (List ℕ)) (result : Result JobStatus WriteFault) : Type 0 where
   pub at : IsBoundAt any_address link.at
   pub to : Peer
   pub body : Body
@@ -44,7 +44,7 @@ pub record IsAsked (question : Question) (link : BoundLink) (old new : Option (L
   pub asks : WordsAsk question.body body
   pub left : ClientState
   pub called : Result Reply CallFault
-  pub calls : Calls (new_client question.customer question.number question.number) left new_trace
-      link.trace to body question.tries called
+  pub calls : Calls (new_client customer number number) left new_trace link.trace to body
+      question.tries called
   pub shows : IfOk result (λ status. (status ≡ asked_status called)
       × Appends old new (asked_line called))

@@ -1,6 +1,5 @@
 //! Lists the jobs that a command line asks for.
 use crate::look::Look;
-use crate::noted_question::NotedQuestion;
 use crate::question::Question;
 use crate::report_kind::ReportKind;
 use crate::tries::Tries;
@@ -26,9 +25,6 @@ pub enum Job<'a> {
     },
     /// A call of a server: `grant`, `draw`, `void`, `query` or `withdraw`.
     Ask(Question<'a>),
-    /// A call of a server with the next number of notes: `grant`, `draw`, `void`, `query` or
-    /// `withdraw`.
-    AskByNotes(NotedQuestion<'a>),
     /// The creation of the notes of a client, with the numbers `first` to `last`.
     Notes {
         file: &'a str,

@@ -3,6 +3,7 @@
 #![tactic(auto)]
 
 mod answer_line;
+mod asker;
 mod asking;
 mod binding;
 mod body_words;
@@ -28,13 +29,11 @@ mod link_fault;
 mod look;
 mod loop_calls;
 mod making;
-mod noted_question;
 mod notes_asking;
 mod notes_lines;
 mod notes_making;
 mod parts;
 mod question;
-mod question_texts;
 mod questioning;
 mod refusal;
 mod refusals;
@@ -52,6 +51,7 @@ mod turns;
 mod words;
 
 pub use answer_line::write_answer;
+pub use asker::Asker;
 pub use asking::ask;
 pub use binding::{bind_client, bind_link};
 pub use body_words::BodyWords;
@@ -70,12 +70,11 @@ pub use link_fault::write_link_fault;
 pub use look::Look;
 pub use loop_calls::make_calls;
 pub use making::make;
-pub use noted_question::NotedQuestion;
 pub use notes_asking::{ask_again, ask_by_notes};
 pub use notes_lines::fail_by_notes;
 pub use notes_making::write_made;
 pub use question::Question;
-pub use questioning::ask_question;
+pub use questioning::ask_by_number;
 pub use refusal::{Refusal, write_refusal};
 pub use refusals::refuse;
 pub use replaying::{replay, replay_on, run_replay};

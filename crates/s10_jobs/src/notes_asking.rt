@@ -11,9 +11,9 @@ ghost use Rattle.s10_jobs.specs.NotesAsked.{IsLived, IsSettled, RecordsReply};
 use crate::asking::write_call_result;
 use crate::job_status::JobStatus;
 use crate::notes_lines::{fail_by_notes, refuse_to_take};
+use crate::questioning::call_request;
 use crate::refusals::refuse;
 use crate::tries::Tries;
-use s10_ends::{Client, call};
 use s10_lines::WriteFault;
 use s10_link::{Link, Peer};
 use s10_notes::Notebook;
@@ -103,10 +103,7 @@ fn ask_request<N: Notebook, L: Link, W: Write>(
     ensures led { LeadsTo L.step link.old link.new }
     ensures at { N.path notebook.new ≡ N.path notebook.old }
 {
-    let Ok(mut client) = Client::new(request.customer, request.number, request.number) else {
-        unreachable!()
-    };
-    let called = call(&mut client, link, to, request.body, tries.count());
+    let called = call_request(request, link, to, tries);
     let status = write_call_result(&called, out)?;
     match called {
         Ok(_) => record_reply(notebook, status, out),

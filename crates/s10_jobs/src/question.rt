@@ -1,7 +1,7 @@
 //! Reads a request from the words of a command line.
 
+use crate::asker::Asker;
 use crate::body_words::BodyWords;
-use crate::question_texts::read_texts;
 use crate::refusal::Refusal;
 use crate::tries::Tries;
 use s10_link::Peer;
@@ -12,10 +12,8 @@ use s10_wire::Body;
 pub struct Question<'a> {
     /// The address of the server, as `127.0.0.1:4711`.
     pub to: &'a str,
-    /// The customer; 0 is the post.
-    pub customer: u32,
-    /// The number of the request.
-    pub number: u32,
+    /// What gives the request its number.
+    pub asker: Asker<'a>,
     /// The body of the request.
     pub body: BodyWords<'a>,
     /// The maximum number of tries.
@@ -40,6 +38,10 @@ impl Question<'_> {
             × WordsAsk self.now.body read.1) }
         ensures refused { IfErr result (IsQuestionRefusal self.now.to.now self.now.body) }
     {
-        read_texts(self.to, &self.body)
+        let Some(to) = Peer::read(self.to.as_bytes()) else {
+            return Err(Refusal::Peer);
+        };
+        let body = self.body.read()?;
+        Ok((to, body))
     }
 }

@@ -1,12 +1,45 @@
-//! Reads the job of a command line with `report` or `info`.
+//! Reads the jobs of a command line over a ledger: in a file, or for `loop` in memory.
 ghost use Rattle.std.specs.Prelude.{codes};
 ghost use Rattle.s10_cli.specs.Options.{rows_in, Finds, HasFormat, HasIssueFilter};
 ghost use Rattle.s10_cli.specs.Jobs.{AsksFor, IsKind};
 
-use crate::option_values::{flag_of, id_of, number_of, text_of};
+use crate::option_values::{flag_of, id_of, number_of, settings_of, text_of};
 use clap::ArgMatches;
-use s10_jobs::{Job, Look, ReportKind};
+use s10_jobs::{Job, Look, ReportKind, TurnOptions};
 use s10_reports::{IssueFilter, IssuesReport, RangeFilter, ReportFormat};
+
+/// Returns the job of creating a ledger that the words of `create` ask for.
+///
+/// Returns `None` if a required option is missing or its number is out of range. Neither occurs in
+/// a command line that `parse` accepted.
+pub fn create_job<'a>(found: &ArgMatches<'a>) -> Option<Job<'a>>
+    ensures { Finds (AsksFor (codes "create") (rows_in found.now)) result }
+{
+    Some(Job::Create {
+        ledger: text_of(found, "ledger")?,
+        settings: settings_of(found)?,
+    })
+}
+
+/// Returns the job of serving a ledger that the words of `serve` ask for.
+///
+/// Returns `None` if a required option is missing or its number is out of range. Neither occurs in
+/// a command line that `parse` accepted.
+pub fn serve_job<'a>(found: &ArgMatches<'a>) -> Option<Job<'a>>
+    ensures { Finds (AsksFor (codes "serve") (rows_in found.now)) result }
+{
+    Some(Job::Serve {
+        ledger: text_of(found, "ledger")?,
+        bind: text_of(found, "bind")?,
+        options: TurnOptions {
+            count: number_of(found, "count")?,
+            day: number_of(found, "day"),
+            most_days_ahead: number_of(found, "most-days-ahead"),
+            senders: flag_of(found, "senders"),
+        },
+        until: text_of(found, "until"),
+    })
+}
 
 /// Returns the report that the words of `report` ask for.
 ///
@@ -41,6 +74,45 @@ pub fn info_job<'a>(found: &ArgMatches<'a>) -> Option<Job<'a>>
         });
     }
     Some(Job::Report { ledger, kind, day })
+}
+
+/// Returns the audit that the words of `audit` ask for.
+///
+/// Returns `None` if a required option is missing or its number is out of range. Neither occurs in
+/// a command line that `parse` accepted.
+pub fn audit_job<'a>(found: &ArgMatches<'a>) -> Option<Job<'a>>
+    ensures { Finds (AsksFor (codes "audit") (rows_in found.now)) result }
+{
+    let ledger = text_of(found, "ledger")?;
+    if flag_of(found, "snapshot") {
+        return Some(Job::Snapshot {
+            ledger,
+            look: Look::Audit,
+        });
+    }
+    Some(Job::Audit { ledger })
+}
+
+/// Returns the copy that the words of `copy` ask for.
+///
+/// Returns `None` if a required option is missing. This does not occur in a command line that
+/// `parse` accepted.
+pub fn copy_job<'a>(found: &ArgMatches<'a>) -> Option<Job<'a>>
+    ensures { Finds (AsksFor (codes "copy") (rows_in found.now)) result }
+{
+    Some(Job::Copy {
+        ledger: text_of(found, "ledger")?,
+        to: text_of(found, "to")?,
+    })
+}
+
+/// Returns the loop that the words ask for.
+pub fn loop_job<'a>(found: &ArgMatches<'a>) -> Job<'a>
+    ensures { AsksFor (codes "loop") (rows_in found.now) result }
+{
+    Job::Loop {
+        day: number_of(found, "day"),
+    }
 }
 
 // Returns the kind of report that the words of `report` ask for. Ranges have no days, so a day asks

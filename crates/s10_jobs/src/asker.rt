@@ -1,5 +1,5 @@
 /// What gives a request its number.
-#[derive(Clone, Copy)]
+#[derive(Clone, Copy, Debug, PartialEq, Eq)]
 pub enum Asker<'a> {
     /// The customer and the number of the command line.
     Numbered {
@@ -8,6 +8,6 @@ pub enum Asker<'a> {
         /// The number of the request.
         number: u32,
     },
-    /// The notes at this path.
+    /// The notes at this path, which name the customer.
     Noted(&'a str),
 }
