@@ -10,8 +10,9 @@ use Rattle.s10_host.specs.declared.job_resources.JobResources.{JobResources}
 use Rattle.s10_host.specs.JobResources.{files_in, link_in, looped_in, notes_in, snapshot_in, copy_in}
 use Rattle.s10_host.specs.Copying.{HasCopied}
 use Rattle.s10_host.specs.Files.{ClosedFiles}
-use Rattle.s10_host.specs.Jobs.{HasCreated, HasServed, HasReported, HasAudited, HasAsked, IsRunOn}
-use Rattle.s10_host.specs.NotesJobs.{HasMadeNotes, HasAskedAgain, HasAskedByNotes}
+use Rattle.s10_host.specs.Jobs.{HasCreated, HasServed, HasReported, HasAudited, IsRunOn}
+use Rattle.s10_host.specs.Asking.{HasAsked}
+use Rattle.s10_host.specs.NotesJobs.{HasMadeNotes, HasAskedAgain}
 use Rattle.s10_host.specs.Snapshots.{HasLooked}
 
 module _ (S : RattleType) (first : Ghosts S.Denot) where
@@ -25,9 +26,7 @@ module _ (S : RattleType) (first : Ghosts S.Denot) where
       HasServed S first gives bind.now options begun ended (is_some until) old new result
       (files_in used) (link_in used)
   HasEnded gives (job.Ask question) begun ended old new result used =
-      HasAsked question old new result (link_in used)
-  HasEnded gives (job.AskByNotes question) begun ended old new result used =
-      HasAskedByNotes question old new result (link_in used) (notes_in used)
+      HasAsked question.asker question old new result (link_in used) (notes_in used)
   HasEnded gives (job.Notes file customer first lst) begun ended old new result used =
       HasMadeNotes file.now customer first lst old new result (notes_in used)
   HasEnded gives (job.Again to path tries) begun ended old new result used =

@@ -23,7 +23,6 @@ use Rattle.s10_rows.specs.declared.open_fault.OpenFault.TheVariants.{Store}
 use Rattle.s10_jobs.specs.declared.job_status.JobStatus.{JobStatus}
 use Rattle.s10_jobs.specs.declared.job_status.JobStatus.TheVariants.{Done, Refused, Failed}
 use Rattle.s10_jobs.specs.declared.turn_options.TurnOptions.{TurnOptions}
-use Rattle.s10_jobs.specs.declared.question.Question.{Question}
 use Rattle.s10_jobs.specs.Questions.{IsPeerText}
 use Rattle.s10_jobs.specs.Lines.{refused_line}
 use Rattle.s10_jobs.specs.Words.{open_fault_words}
@@ -35,10 +34,8 @@ use Rattle.s10_host.specs.Audited.{HasFound, HoldsAudited, audit_line, audit_sta
 use Rattle.s10_jobs.specs.Reporting.{IsOfIssues, report_lines, report_on, PrintsReport}
 use Rattle.s10_reports.specs.declared.issues_report.IssuesReport.{IssuesReport}
 use Rattle.s10_jobs.specs.Days.{IsTaken}
-use Rattle.s10_jobs.specs.Questioning.{IsAsked, IsUnasked}
 use Rattle.s10_host.specs.declared.loop_resources.LoopResources.{LoopResources}
 use Rattle.s10_host.specs.Closing.{ServesOver, TurnsUntil}
-use Rattle.s10_host.specs.Called.{HasCalled}
 use Rattle.s10_host.specs.LoopRun.{HasRunLoop}
 use Rattle.s10_host.specs.Files.{FileConnection, FileLedger, ClosedFiles, WhereClean, IsFoundIn}
 use Rattle.s10_host.specs.Files.{IsEmptyBook, IsFoundBook, ClosesInto, LeavesClean, IsFileFault}
@@ -79,12 +76,6 @@ pub record IsAskedFor {C : Type 0} (gives : C → Option ℕ → C → Type 0) (
       × (ended ≡ begun)
   pub dated : ¬ IsOfIssues kind → (d : ℕ) × (report ≡ report_on kind d)
       × IsTaken gives day (Some d) begun ended
-
--- The question was asked over the link that is returned, or the line says why it was not.
-abbrev pub HasAsked : Question → Option (List ℕ) → Option (List ℕ) → Result JobStatus WriteFault
-    → Option BoundLink → Type 0
-HasAsked question old new result link = HasCalled
-    (λ l. IsAsked question l old new result) (IsUnasked question) old new result link
 
 -- The calls of a loop were made on the given day or, if none is given, on the first day that the
 -- source gave. Or it gave no day, and nothing was bound.

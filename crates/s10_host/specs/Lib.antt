@@ -5,6 +5,7 @@ pub mod Files
 pub mod LoopRun
 pub mod Called
 pub mod NotesJobs
+pub mod Asking
 pub mod Jobs
 pub mod JobResources
 pub mod LedgerJobs

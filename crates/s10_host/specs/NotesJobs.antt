@@ -18,7 +18,7 @@ use Rattle.s10_jobs.specs.declared.job_status.JobStatus.{JobStatus}
 use Rattle.s10_jobs.specs.declared.job_status.JobStatus.TheVariants.{Refused, Failed}
 use Rattle.s10_jobs.specs.declared.refusal.Refusal.{Refusal}
 use Rattle.s10_jobs.specs.declared.refusal.Refusal.TheVariants.{Peer as PeerText}
-use Rattle.s10_jobs.specs.declared.noted_question.NotedQuestion.{NotedQuestion}
+use Rattle.s10_jobs.specs.declared.question.Question.{Question}
 use Rattle.s10_jobs.specs.Lines.{refused_line}
 use Rattle.s10_jobs.specs.Questions.{IsPeerText, IsQuestionRefusal, WordsAsk, refusal_words}
 use Rattle.s10_jobs.specs.Questioning.{any_address}
@@ -96,15 +96,15 @@ HasAskedAgain to path tries old new result link notes = HasCalled
     AsksOpen held_in may_find_in opened.held.request opened left t t' peer tries old new result) l))
     (IsUnaskedByNotes (IsAgainRefusal to) (IsPeerText to) path notes) old new result link
 
--- The body of the question was asked with the next number of its notes, or the line says why it was
--- not.
-abbrev pub HasAskedByNotes : NotedQuestion → Option (List ℕ) → Option (List ℕ)
+-- The body of the question was asked with the next number of the notes at the path, or the line says
+-- why it was not.
+abbrev pub HasAskedByNotes : List ℕ → Question → Option (List ℕ) → Option (List ℕ)
     → Result JobStatus WriteFault → Option BoundLink → Option OpenNotes → Type 0
-HasAskedByNotes question old new result link notes = HasCalled
+HasAskedByNotes path question old new result link notes = HasCalled
     (λ l. (body : Body) × WordsAsk question.body body
-    × IsSomeAnd notes (UsesNotes question.to.now question.notes.now (λ opened left t t' peer.
+    × IsSomeAnd notes (UsesNotes question.to.now path (λ opened left t t' peer.
     AsksByNotes held_in may_find_in (take_fault opened.held) body opened left t t' peer
     question.tries old new result) l))
     (IsUnaskedByNotes (IsQuestionRefusal question.to.now question.body)
-    (IsPeerText question.to.now × (body : Body) × WordsAsk question.body body) question.notes.now
-    notes) old new result link
+    (IsPeerText question.to.now × (body : Body) × WordsAsk question.body body) path notes)
+    old new result link

@@ -1,22 +1,44 @@
-//! Asks one question over a socket of its own.
+//! Asks a question over a socket of its own.
 
-ghost use Rattle.s10_host.specs.JobResources.{link_in};
-ghost use Rattle.s10_host.specs.Jobs.{HasAsked};
+ghost use Rattle.std.specs.Prelude.{◌≡◌, None};
+ghost use Rattle.s10_host.specs.JobResources.{link_in, notes_in};
+ghost use Rattle.s10_host.specs.Asking.{HasAsked, HasAskedByNumber};
 
 use crate::job_end::JobEnd;
 use crate::job_resources::JobResources;
-use s10_jobs::{Question, ask_question, bind_client, eprint_failure, fail_by_link, write_refusal};
+use crate::notes::run_by_notes;
+use s10_jobs::{
+    Asker, Question, ask_by_number, bind_client, eprint_failure, fail_by_link, write_refusal,
+};
+use s10_wire::Request;
 use std::io::Write;
 
-/// Asks a question over a socket of its own. A text that cannot be read is refused before a socket
-/// is bound.
+/// Asks a question with its number, or with the next one of its notes.
 pub(crate) fn run_question<'a, F, W: Write>(
-    rt: &HostRuntime,
-    question: &Question<'_>,
+    rt: &'a HostRuntime,
+    question: &Question<'a>,
     out: &mut W,
 ) -> JobEnd<'a, F>
-    ensures { HasAsked question.now (W.contents out.old) (W.contents out.new) result.done
-        (link_in result.resources) }
+    ensures { HasAsked question.now.asker question.now (W.contents out.old) (W.contents out.new)
+        result.done (link_in result.resources) (notes_in result.resources) }
+{
+    match question.asker {
+        Asker::Numbered { customer, number } => run_by_number(rt, question, customer, number, out),
+        Asker::Noted(file) => run_by_notes(rt, question, file, out),
+    }
+}
+
+// Asks a question with its number. A text that cannot be read is refused before a socket is bound.
+fn run_by_number<'a, F, W: Write>(
+    rt: &HostRuntime,
+    question: &Question<'_>,
+    customer: u32,
+    number: u32,
+    out: &mut W,
+) -> JobEnd<'a, F>
+    ensures asked { HasAskedByNumber customer number question.now (W.contents out.old)
+        (W.contents out.new) result.done (link_in result.resources) }
+    ensures without_notes { notes_in result.resources ≡ None }
 {
     let (to, body) = match question.read() {
         Ok(read) => read,
@@ -36,7 +58,12 @@ pub(crate) fn run_question<'a, F, W: Write>(
             };
         }
     };
-    let asked = ask_question(question, &mut link, to, body, out);
+    let request = Request {
+        customer,
+        number,
+        body,
+    };
+    let asked = ask_by_number(&request, &mut link, to, question.tries, out);
     eprint_failure(rt, to, &link);
     JobEnd {
         done: asked,

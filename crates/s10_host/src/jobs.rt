@@ -9,7 +9,7 @@ use crate::create::run_create;
 use crate::files::ClosedFiles;
 use crate::job_end::JobEnd;
 use crate::looping::run_loop_on;
-use crate::notes::{run_again, run_by_notes, run_notes};
+use crate::notes::{run_again, run_notes};
 use crate::report::run_report;
 use crate::serve::run_serve;
 use crate::snapshot::run_snapshot;
@@ -48,7 +48,6 @@ pub fn run_job<'a, S: Start, D: Days, W: Write>(
             until,
         } => run_serve(rt, *ledger, *bind, *options, *until, seed, start, days, out),
         Job::Ask(question) => run_question(rt, question, out),
-        Job::AskByNotes(question) => run_by_notes(rt, question, out),
         Job::Notes {
             file,
             customer,

@@ -8,8 +8,8 @@ ghost use Rattle.s10_host.specs.NotesJobs.{IsNewAt, IsOpenedAt};
 use crate::job_end::JobEnd;
 use crate::job_resources::JobResources;
 use s10_jobs::{
-    NotedQuestion, Refusal, Tries, ask_again, ask_by_notes, bind_client, eprint_failure,
-    fail_by_link, fail_by_notes, refuse, write_made, write_refusal,
+    Question, Refusal, Tries, ask_again, ask_by_notes, bind_client, eprint_failure, fail_by_link,
+    fail_by_notes, refuse, write_made, write_refusal,
 };
 use s10_link::Peer;
 use s10_notes::{HostFolder, Notes, NotesFault, NotesFile};
@@ -120,15 +120,16 @@ pub(crate) fn run_again<'a, F, W: Write>(
     }
 }
 
-/// Asks a question with the next number of notes, over a socket of its own. A text that cannot be
+/// Asks a question with the next number of the notes in a file, over a socket of its own. A text that cannot be
 /// read is refused before the notes are opened, and these are opened before a socket is bound.
 pub(crate) fn run_by_notes<'a, F, W: Write>(
     rt: &'a HostRuntime,
-    question: &NotedQuestion<'a>,
+    question: &Question<'a>,
+    file: &'a str,
     out: &mut W,
 ) -> JobEnd<'a, F>
-    ensures { HasAskedByNotes question.now (W.contents out.old) (W.contents out.new) result.done
-        (link_in result.resources) (notes_in result.resources) }
+    ensures { HasAskedByNotes file.now question.now (W.contents out.old) (W.contents out.new)
+        result.done (link_in result.resources) (notes_in result.resources) }
 {
     let (to, body) = match question.read() {
         Ok(read) => read,
@@ -139,7 +140,7 @@ pub(crate) fn run_by_notes<'a, F, W: Write>(
             };
         }
     };
-    let mut notes = match open_notes(rt, question.notes) {
+    let mut notes = match open_notes(rt, file) {
         Ok(notes) => notes,
         Err(fault) => {
             return JobEnd {

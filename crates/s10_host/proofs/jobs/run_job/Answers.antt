@@ -16,11 +16,6 @@ returns-in-Ask g c =
     ended_as _ g.S.Start g.D.Days.gives c.args.job.now _ _ _ _ _ _ c.run_question.result.resources
     c.in-Ask.is c.run_question.ensures
 
-pub returns-in-AskByNotes : goal.returns-in-AskByNotes
-returns-in-AskByNotes g c =
-    ended_as _ g.S.Start g.D.Days.gives c.args.job.now _ _ _ _ _ _ c.run_by_notes.result.resources
-    c.in-AskByNotes.is c.run_by_notes.ensures
-
 pub returns-in-Notes : goal.returns-in-Notes
 returns-in-Notes g c =
     ended_as _ g.S.Start g.D.Days.gives c.args.job.now _ _ _ _ _ _ c.run_notes.result.resources

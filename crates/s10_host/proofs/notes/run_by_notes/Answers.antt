@@ -16,7 +16,7 @@ returns-in-Err g c =
     record {
       asked = tt;
       unasked = λ _. no_text (IsQuestionRefusal asked.to.now asked.body)
-          (IsPeerText asked.to.now × (body : Body) × WordsAsk asked.body body) asked.notes.now
+          (IsPeerText asked.to.now × (body : Body) × WordsAsk asked.body body) c.args.file.now
           c.in-Err.refusal _ _ _ c.write_refusal.result refl c.in-Err.ensures.refused
           c.write_refusal.ensures;
     }
@@ -27,7 +27,7 @@ returns-in-Err-open_notes g c =
     record {
       asked = tt;
       unasked = λ _. no_notes (IsQuestionRefusal asked.to.now asked.body)
-          (IsPeerText asked.to.now × (body : Body) × WordsAsk asked.body body) asked.notes.now
+          (IsPeerText asked.to.now × (body : Body) × WordsAsk asked.body body) c.args.file.now
           c.in-Err-open_notes.fault _ _ _ c.fail_by_notes.result refl
           ((c.in-Ok.read.0, c.in-Ok.ensures.ok.0), c.in-Ok.read.1, c.in-Ok.ensures.ok.1)
           c.fail_by_notes.ensures;
@@ -39,7 +39,7 @@ returns-in-Err-bind_client g c =
     record {
       asked = tt;
       unasked = λ _. no_socket (IsQuestionRefusal asked.to.now asked.body)
-          (IsPeerText asked.to.now × (body : Body) × WordsAsk asked.body body) asked.notes.now
+          (IsPeerText asked.to.now × (body : Body) × WordsAsk asked.body body) c.args.file.now
           c.in-Err-bind_client.fault _ _ _ c.fail_by_link.result c.in-Ok-open_notes.ensures
           ((c.in-Ok.read.0, c.in-Ok.ensures.ok.0), c.in-Ok.read.1, c.in-Ok.ensures.ok.1)
           c.in-Err-bind_client.ensures.refused c.fail_by_link.ensures;
