@@ -8,14 +8,14 @@ use Rattle.std.specs.Io.KnownBytes.{Appends}
 use Rattle.sqlite_disk.specs.declared.Disk as disk
 use Rattle.sqlite_disk.specs.declared.Files.{Files}
 use Rattle.sqlite_disk.specs.declared.start.Start.{Ghosts}
-use Rattle.sqlite_wal.specs.Files.{image_at}
+use Rattle.sqlite_wal.specs.Recovery.{Image}
 use Rattle.sqlite_store.specs.declared.store.FileStore.{FileStore}
 use Rattle.sqlite.specs.Held.{Held}
 use Rattle.sqlite.specs.Files.{over_files, file_state}
 use Rattle.s10_lines.specs.declared.write_fault.WriteFault.{WriteFault}
 use Rattle.s10_lines.specs.Lines.{line_of}
 use Rattle.s10_link.specs.declared.peer.Peer.{Peer}
-use Rattle.s10_link.specs.UdpLink.{BoundLink}
+use Rattle.s10_link.specs.UdpLink.{BoundLink, IsBoundAt}
 use Rattle.s10_history.specs.Settings.{Terms}
 use Rattle.s10_book.specs.declared.book_fault.BookFault.{BookFault}
 use Rattle.s10_book.specs.Book.{Unchanged}
@@ -39,25 +39,24 @@ use Rattle.s10_host.specs.Files.{FileConnection, FileLedger, ClosedFiles, Copies
 use Rattle.s10_host.specs.Files.{IsFoundIn, IsFileFault, IsAbsenceOr, IsNotMade, IsNotOpened}
 use Rattle.s10_host.specs.Files.{LeavesClean, AreFilesOf, Keeps, KeepsRefused, IsUnopenedAs}
 use Rattle.s10_host.specs.Audited.{HasFound, KeepsAudited, audit_line, audit_status}
-use Rattle.s10_host.specs.Closing.{IsClosedAs}
-use Rattle.s10_host.specs.Jobs.{ledger_line, FailsByLedger, FailsByClosing, EndsAs, IsAskedFor}
+use Rattle.s10_host.specs.Closing.{IsClosedAs, ServesOver, Turns}
+use Rattle.s10_host.specs.Jobs.{HasClosed, ledger_line, FailsByLedger, FailsByClosing, EndsAs, IsAskedFor}
 use Rattle.s10_host.specs.Jobs.{HasMadeLedger, HasCreated, EndsServed, IsRefusedIn, IsUnopened}
 use Rattle.s10_host.specs.Jobs.{IsUnlinked, Writes, IsReported, IsReportOf, HasServed}
 use Rattle.s10_host.specs.Jobs.{HasReported}
 use Rattle.s10_host.specs.Jobs.{HasAudited}
 use Rattle.s10_host.specs.Ended.{HasEnded}
 use Rattle.s10_host.specs.declared.job_resources.JobResources.{JobResources}
-use Rattle.s10_host.specs.declared.ledger_job.LedgerJob.{LedgerJob}
-use Rattle.s10_host.specs.declared.ledger_job.LedgerJob.TheVariants.{Create, Serve, Report as ReportOn}
 use Rattle.s10_host.specs.UntilFile.{EndsIfNamed}
-use Rattle.s10_host.specs.LedgerJobs.{IsRefusedAs, EndsOver}
+use Rattle.s10_host.specs.LedgerJobs.{IsMadeWith, IsOpenedFrom, IsLeftByRefusal, IsRefusedLeft}
+use Rattle.s10_host.specs.LedgerJobs.{IsReportedOn, IsUsed}
 use Rattle.s10_jobs.specs.Days.{IsTaken}
 use Rattle.sqlite.specs.Effect.{Database}
 use Rattle.s10_statements.specs.ConnectionState.{IsOpen}
 use Rattle.s10_statements.specs.Creating.{IsCreateRefusal}
 use Rattle.s10_ledger.specs.Refusals.{IsOpeningRefusal}
 use Rattle.s10_host.proofs.Opening.{empty_book, found_book, closed_into, still_none, calls_all}
-use Rattle.s10_host.proofs.Opening.{all_kept_refused, shown}
+use Rattle.s10_host.proofs.Opening.{kept_refused, shown}
 
 -- A job that failed by a fault, which was printed.
 pub fails_by : (IsFault : OpenFault → Type 0) (fault : OpenFault) (old new : Option (List ℕ))
@@ -152,45 +151,18 @@ module _ {D : Type 0} {g : disk.Ghosts D} where
   kept_copied closed put (Some f) committed done result new last copied (is, ends) =
       (subst (λ r. IfOk r (Copies closed)) is copied, ends)
 
-  pub refused_over : {C E : Type 0} {due : E → Bool → E → Type 0} {x y : E}
-      (gives : C → Option ℕ → C → Type 0) (job : LedgerJob)
-      (begun ended : C) (was left : Held (FileStore D g)) (old between new : Option (List ℕ))
-      (fault : OpenFault) (result : Result JobStatus WriteFault) (files : Option (Files D))
-      → IsRefusedAs over_files job was left fault → between ≡ old
-      → IfOk result (λ status. (status ≡ Failed) × Appends between new (ledger_line fault))
-      → IfSome files (AreFilesOf left) → IfSome files (Keeps left)
-      → (IsOpen over_files left → (file_state left).committed ≡ (file_state left).now)
-      → EndsOver gives job begun ended due x y was old new result files None
-  refused_over gives job begun ended was left old between new fault result files refused still says
-      of keeps committed =
-      inr (record {
-        fault = fault;
-        left = left;
-        refusal = refused.refusal;
-        printed = subst (λ text. IfOk result (λ status. (status ≡ Failed)
-            × Appends text new (ledger_line fault))) still says;
-        kept = all_kept_refused job was left fault files refused committed of keeps;
-        no_link = refl;
-      })
-
-module _ (S : RattleType) (first : Ghosts S.Denot) where
+module _ {D : Type 0} (g : disk.Ghosts D) (held : Image) where
   -- A refusal of the database in the files, from that over their connection.
-  refused_in : (Refuses : OpenFault → Database → Type 0) (was : FileConnection S first)
+  refused_in : (Refuses : OpenFault → Database → Type 0) (was : FileConnection g)
       (fault : OpenFault) (old new : Option (List ℕ)) (result : Result JobStatus WriteFault)
-      (f : ClosedFiles S first) → IsFoundIn (image_at first) was
+      (f : Files D) → IsFoundIn held was
       → IfOk result (λ status. (status ≡ Failed) × Appends old new (ledger_line fault))
-      → KeepsRefused was (Refuses fault) f → IsRefusedIn S first Refuses old new result f
+      → KeepsRefused was (Refuses fault) f → IsRefusedIn g held Refuses old new result f
   refused_in Refuses was fault old new result f found printed kept = record {
     fault = fault;
     printed = printed;
     kept = λ clean. let holds = kept clean in (was, found holds.sound, holds);
   }
-
-  -- A job that is done has not failed.
-  not_failed : {A : Type 0} (P : JobStatus → Type 0) (done : Result JobStatus WriteFault)
-      → done ≡ Ok Done → IfOk done (λ status. (status ≡ Failed) × P status) → A
-  not_failed P (Ok status) is says = absurd (let one = says.0 in cc)
-  not_failed P (Err fault) is says = absurd cc
 
   -- A ledger that could not be closed was not created.
   not_lost : {A : Type 0} (done result : Result JobStatus WriteFault) (old new : Option (List ℕ))
@@ -199,86 +171,89 @@ module _ (S : RattleType) (first : Ghosts S.Denot) where
   not_lost done (Err fault) old new is says = absurd cc
 
   -- A ledger that was created and closed, after which `created` was printed.
-  pub created : {C E : Type 0} {due : E → Bool → E → Type 0} {x y : E}
-      (gives : C → Option ℕ → C → Type 0) (terms : Terms) (begun ended : C)
-      (was : FileConnection S first) (old between new : Option (List ℕ))
-      (done printed : Result JobStatus WriteFault) (files : Option (ClosedFiles S first))
-      (link : Option BoundLink) → IsFoundIn (image_at first) was → done ≡ Ok Done
-      → EndsOver gives (Create terms) begun ended due x y was old between done files link
+  pub created : (terms : Terms) (was : FileConnection g) (book : FileLedger g)
+      (closed : FileConnection g) (committed : Result (Unit {0}) BookFault)
+      (old between new : Option (List ℕ)) (done printed : Result JobStatus WriteFault)
+      (files : Option (Files D)) → IsFoundIn held was → done ≡ Ok Done
+      → IsMadeWith over_files terms was book → IsClosedAs over_files book closed committed
+      → HasClosed closed committed (Ok Done) old between done files
       → IfOk printed (λ status. (status ≡ Done) × Appends between new (codes "created\n"))
-      → HasCreated S first terms old new printed files
-  created gives terms begun ended was old between new done printed files link found is (inr refused)
-      written = not_failed _ done is refused.printed
-  created gives terms begun ended was old between new done printed None link found is (inl over)
-      written = not_lost over.done done over.between between is (over.lost refl)
-  created gives terms begun ended was old between new done printed (Some f) link found is (inl over)
-      written =
-      let (book, new_book, put, result, still, none) = over.worked in
-      let (copies, ends) = over.kept in
-      let never = put.none_pending new_book.none_pending in
-      let (same, last) = as_done over.committed over.done done over.between between never ends in
-      let made : HasMadeLedger S first terms f = record {
-        book = book;
-        settings = new_book.settings;
-        empty = empty_book (image_at first) terms was book found new_book;
-        closes_into = closed_into book over.closed over.committed [] f put
-            (λ clean opened. calls_all over_files book over.closed over.committed put never clean
-            opened ∙ new_book.empty (put.honest clean opened)) copies;
-      } in
+      → HasCreated g held terms old new printed files
+  created terms was book closed committed old between new done printed None found is made put ended
+      written = not_lost (Ok Done) done old between is (ended.lost refl)
+  created terms was book closed committed old between new done printed (Some f) found is made put
+      ended written =
+      let (copies, ends) = ended.kept in
+      let never = put.none_pending made.none_pending in
+      let (same, last) = as_done committed (Ok Done) done old between never ends in
       record {
         closed = inl (
-          made,
+          record {
+            book = book;
+            settings = made.settings;
+            empty = empty_book held terms was book found made;
+            closes_into = closed_into book closed committed [] f put
+                (λ clean opened. calls_all over_files book closed committed put never clean opened
+                ∙ made.empty (put.honest clean opened)) copies;
+          },
           subst (λ text. IfOk printed (λ status. (status ≡ Done)
-              × Appends text new (codes "created\n"))) (last ∙ still) written,
+              × Appends text new (codes "created\n"))) last written,
         );
         refused = λ gone. absurd cc;
       }
 
-  -- A ledger that was refused, or could not be closed.
-  pub not_created : {C E : Type 0} {due : E → Bool → E → Type 0} {x y : E}
-      (gives : C → Option ℕ → C → Type 0) (terms : Terms)
-      (begun ended : C) (was : FileConnection S first) (old new : Option (List ℕ))
-      (result : Result JobStatus WriteFault) (files : Option (ClosedFiles S first))
-      (link : Option BoundLink) → result ≢ Ok Done → IsFoundIn (image_at first) was
-      → EndsOver gives (Create terms) begun ended due x y was old new result files link
-      → HasCreated S first terms old new result files
-  not_created gives terms begun ended was old new result (Some f) link undone found (inr refused) =
+  -- A ledger that was created, and whose files could not be closed.
+  pub not_closed : (terms : Terms) (was : FileConnection g) (book : FileLedger g)
+      (closed : FileConnection g) (committed : Result (Unit {0}) BookFault)
+      (old new : Option (List ℕ)) (result : Result JobStatus WriteFault) (files : Option (Files D))
+      → result ≢ Ok Done → IsMadeWith over_files terms was book
+      → IsClosedAs over_files book closed committed
+      → HasClosed closed committed (Ok Done) old new result files
+      → HasCreated g held terms old new result files
+  not_closed terms was book closed committed old new result (Some f) undone made put ended =
+      let never = put.none_pending made.none_pending in
+      absurd (undone (as_done committed (Ok Done) result old new never (ended.kept).1).0)
+  not_closed terms was book closed committed old new result None undone made put ended = record {
+    closed = tt;
+    refused = λ _. fails_weaker (λ fault. fault ≡ Store) (IsNotMade g held)
+        (λ fault is. inl (inl (inr is))) (Ok Done) old new result (ended.lost refl);
+  }
+
+  -- A database that was refused for a new ledger.
+  pub not_created : (terms : Terms) (was left : FileConnection g) (fault : OpenFault)
+      (old new : Option (List ℕ)) (result : Result JobStatus WriteFault) (files : Option (Files D))
+      → IsFoundIn held was → IsCreateRefusal (file_state was).now.schema fault
+      → IsLeftByRefusal over_files was left
+      → (IsOpen over_files left → (file_state left).committed ≡ (file_state left).now)
+      → IfSome files (AreFilesOf left) → IfSome files (Keeps left)
+      → IfOk result (λ status. (status ≡ Failed) × Appends old new (ledger_line fault))
+      → HasCreated g held terms old new result files
+  not_created terms was left fault old new result None found refusal kept committed of keeps printed =
       record {
-        closed = inr (refused_in (λ fault db. IsCreateRefusal db.schema fault) was refused.fault old
-            new result f found refused.printed refused.kept);
+        closed = tt;
+        refused = λ _. fails_by (IsNotMade g held) fault old new result
+            (inr (record { was = was; found = found; refusal = refusal })) printed;
+      }
+  not_created terms was left fault old new result (Some f) found refusal kept committed of keeps
+      printed =
+      record {
+        closed = inr (refused_in (λ fault db. IsCreateRefusal db.schema fault) was fault old new
+            result f found printed
+            (kept_refused (λ (db : Database). IsCreateRefusal db.schema fault) was left f
+            (λ clean opened. refusal) kept committed of keeps));
         refused = λ gone. absurd cc;
-      }
-  not_created gives terms begun ended was old new result (Some f) link undone found (inl over) =
-      let (book, new_book, put, done, still, none) = over.worked in
-      let never = put.none_pending new_book.none_pending in
-      let (same, last) = as_done over.committed over.done result over.between new never
-      over.kept.1 in
-      absurd (undone (same ∙ done))
-  not_created gives terms begun ended was old new result None link undone found (inr refused) =
-      record {
-        closed = tt;
-        refused = λ _. fails_by (IsNotMade S first) refused.fault old new result
-            (inr (record { was = was; found = found; refusal = refused.refusal })) refused.printed;
-      }
-  not_created gives terms begun ended was old new result None link undone found (inl over) =
-      let (book, new_book, put, done, still, no_link) = over.worked in
-      record {
-        closed = tt;
-        refused = λ _. fails_weaker (λ fault. fault ≡ Store) (IsNotMade S first)
-            (λ fault is. inl (inl (inr is))) over.done old new result
-            (subst (λ text. FailsByClosing over.done text new result) still (over.lost refl));
       }
 
   -- A ledger whose file could not be opened.
   pub not_connected : (terms : Terms) (fault : OpenFault) (old new : Option (List ℕ))
-      (printed result : Result JobStatus WriteFault) (files : Option (ClosedFiles S first))
-      → IsUnopenedAs S first NotEmpty fault
+      (printed result : Result JobStatus WriteFault) (files : Option (Files D))
+      → IsUnopenedAs g held NotEmpty fault
       → IfOk printed (λ status. (status ≡ Failed) × Appends old new (ledger_line fault))
-      → result ≡ printed → files ≡ None → HasCreated S first terms old new result files
+      → result ≡ printed → files ≡ None → HasCreated g held terms old new result files
   not_connected terms fault old new printed result (Some f) is says same none = absurd cc
   not_connected terms fault old new printed result None is says same none = record {
     closed = tt;
-    refused = λ _. fails_by (IsNotMade S first) fault old new result (inl is)
+    refused = λ _. fails_by (IsNotMade g held) fault old new result (inl is)
         (subst (λ r. IfOk r (λ status. (status ≡ Failed) × Appends old new (ledger_line fault)))
         (sym same) says);
   }
@@ -286,7 +261,7 @@ module _ (S : RattleType) (first : Ghosts S.Denot) where
   -- A file that does not exist, or is no database, is not opened.
   absent_or_refused : (old new : Option (List ℕ)) (result : Result JobStatus WriteFault)
       → IfOk result (FailsByLedger (IsAbsenceOr IsFileFault) old new)
-      → IfOk result (FailsByLedger (IsNotOpened S first) old new)
+      → IfOk result (FailsByLedger (IsNotOpened g held) old new)
   absent_or_refused old new (Ok status) (failed, fault, inl absent, written) =
       (failed, fault, inl absent, written)
   absent_or_refused old new (Ok status) (failed, fault, inr is, written) =
@@ -294,12 +269,12 @@ module _ (S : RattleType) (first : Ghosts S.Denot) where
   absent_or_refused old new (Err e) printed = tt
 
   -- Which calls the files of a served ledger hold.
-  ends_served : (served : FileLedger S first) (closed : FileConnection S first)
-      (committed : Result (Unit {0}) BookFault) (f : ClosedFiles S first)
+  ends_served : (served : FileLedger g) (closed : FileConnection g)
+      (committed : Result (Unit {0}) BookFault) (f : Files D)
       (done result : Result JobStatus WriteFault) (new last : Option (List ℕ))
       → IsClosedAs over_files served closed committed → Copies closed f
       → EndsAs committed done new last result
-      → EndsServed S first served done new last result f
+      → EndsServed g held served done new last result f
   ends_served served closed (Ok u) f done result new last put copies (same, still) =
       inl (
         same,
@@ -315,28 +290,28 @@ module _ (S : RattleType) (first : Ghosts S.Denot) where
       )
 
   -- The calls that the files hold, without what was printed.
-  served_into : (served : FileLedger S first) (done result : Result JobStatus WriteFault)
-      (new last : Option (List ℕ)) (f : ClosedFiles S first)
-      → EndsServed S first served done new last result f
+  served_into : (served : FileLedger g) (done result : Result JobStatus WriteFault)
+      (new last : Option (List ℕ)) (f : Files D)
+      → EndsServed g held served done new last result f
       → ClosesInto served (history_of over_files served) f
       ⊎ ((result ≢ Ok Done) × ClosesInto served (committed_of over_files served) f)
   served_into served done result new last f (inl (same, still, whole)) = inl whole
   served_into served done result new last f (inr (failed, left)) =
       inr (λ is. not_lost done result new last is failed, left)
 
-  served_away : (served : FileLedger S first) (closed : FileConnection S first)
+  served_away : (served : FileLedger g) (closed : FileConnection g)
       (committed : Result (Unit {0}) BookFault) (done result : Result JobStatus WriteFault)
-      (new last : Option (List ℕ)) (files : Option (ClosedFiles S first))
+      (new last : Option (List ℕ)) (files : Option (Files D))
       → IsClosedAs over_files served closed committed
       → IfSome files (λ f. Copies closed f × EndsAs committed done new last result)
-      → IfSome files (EndsServed S first served done new last result)
+      → IfSome files (EndsServed g held served done new last result)
   served_away served closed committed done result new last None put kept = tt
   served_away served closed committed done result new last (Some f) put (copies, ends) =
       ends_served served closed committed f done result new last put copies ends
 
-  all_served_into : (served : FileLedger S first) (done result : Result JobStatus WriteFault)
-      (new last : Option (List ℕ)) (files : Option (ClosedFiles S first))
-      → IfSome files (EndsServed S first served done new last result)
+  all_served_into : (served : FileLedger g) (done result : Result JobStatus WriteFault)
+      (new last : Option (List ℕ)) (files : Option (Files D))
+      → IfSome files (EndsServed g held served done new last result)
       → IfSome files (λ f. ClosesInto served (history_of over_files served) f
       ⊎ ((result ≢ Ok Done) × ClosesInto served (committed_of over_files served) f))
   all_served_into served done result new last None ends = tt
@@ -369,14 +344,14 @@ module _ (S : RattleType) (first : Ghosts S.Denot) where
   unlinked_lost old new last (Err e) (Ok other) printed (well, rest) = absurd (let one = well in cc)
   unlinked_lost old new last done (Err e) printed says = tt
 
-  unlinked : (old new last : Option (List ℕ)) (opened after : FileLedger S first)
-      (closed : FileConnection S first) (committed : Result (Unit {0}) BookFault)
-      (done result : Result JobStatus WriteFault) (files : Option (ClosedFiles S first))
+  unlinked : (old new last : Option (List ℕ)) (opened after : FileLedger g)
+      (closed : FileConnection g) (committed : Result (Unit {0}) BookFault)
+      (done result : Result JobStatus WriteFault) (files : Option (Files D))
       → opened.pending ≡ [] → IsUnbound opened after old new done
       → IsClosedAs over_files after closed committed
       → IfSome files (λ f. Copies closed f × EndsAs committed done new last result)
       → (files ≡ None → FailsByClosing done new last result)
-      → IsUnlinked S first opened old last result files
+      → IsUnlinked g held opened old last result files
   unlinked old new last opened after closed committed done result None none unbound put kept lost =
       record {
         closes_into = tt;
@@ -386,7 +361,7 @@ module _ (S : RattleType) (first : Ghosts S.Denot) where
       }
   unlinked old new last opened after closed committed done result (Some f) none unbound put
       (copies, ends) lost =
-      let Pending : FileLedger S first → Type 0 = λ b. b.pending ≡ [] in
+      let Pending : FileLedger g → Type 0 = λ b. b.pending ≡ [] in
       let never = put.none_pending (subst Pending (sym unbound.0) none) in
       let (same, still) = as_done committed done result new last never ends in
       record {
@@ -397,114 +372,107 @@ module _ (S : RattleType) (first : Ghosts S.Denot) where
         lost = λ none. absurd (let one : Some f ≡ None = none in cc);
       }
 
+  -- A database that was refused as a ledger.
+  pub refused_ledger : (was left : FileConnection g) (fault : OpenFault) (old new : Option (List ℕ))
+      (result : Result JobStatus WriteFault) (files : Option (Files D)) → IsFoundIn held was
+      → IsRefusedLeft over_files was left fault → IsLeftByRefusal over_files was left
+      → (IsOpen over_files left → (file_state left).committed ≡ (file_state left).now)
+      → IfSome files (AreFilesOf left) → IfSome files (Keeps left)
+      → IfOk result (λ status. (status ≡ Failed) × Appends old new (ledger_line fault))
+      → IsUnopened g held old new result files
+  refused_ledger was left fault old new result None found refusal kept committed of keeps printed =
+      fails_by (IsNotOpened g held) fault old new result
+      (inr (inr (record { was = was; found = found; left = left; refusal = refusal }))) printed
+  refused_ledger was left fault old new result (Some f) found refusal kept committed of keeps
+      printed =
+      refused_in (λ fault db. IsOpeningRefusal db fault) was fault old new result f found printed
+      (kept_refused (λ (db : Database). IsOpeningRefusal db fault) was left f refusal kept committed
+      of keeps)
+
+  -- What a server did over a connection that was opened, and closed again.
+  abbrev pub Served : {C : Type 0} → (C → Option ℕ → C → Type 0) → Peer → TurnOptions → C → C → Bool
+      → Bool → Option (List ℕ) → Option (List ℕ) → Result JobStatus WriteFault → Option BoundLink
+      → FileLedger g → FileLedger g → Type 0
+  Served gives at options begun ended named after old new done link opened served =
+      (link ≡ None → IsUnbound opened served old new done)
+      × IfSome link (λ l. IsBoundAt at l.at × ServesOver over_files opened served l
+      × Turns over_files gives options begun ended EndsIfNamed named after opened served old new
+      done l)
+
   -- How the turns over existing files ended.
-  served_over : {C : Type 0} (gives : C → Option ℕ → C → Type 0) (bind : List ℕ) (at : Peer)
+  pub served_over : {C : Type 0} (gives : C → Option ℕ → C → Type 0) (bind : List ℕ) (at : Peer)
       (options : TurnOptions) (begun ended : C) (named after : Bool)
-      (was : FileConnection S first)
-      (old new : Option (List ℕ)) (result : Result JobStatus WriteFault)
-      (files : Option (ClosedFiles S first)) (link : Option BoundLink)
-      → SpellsPeer bind at → IsFoundIn (image_at first) was
-      → EndsOver gives (Serve at options) begun ended EndsIfNamed named after was old new result files link
-      → HasServed S first gives bind options begun ended named old new result files link
-  served_over gives bind at options begun ended named after was old new result None None text found
-      (inr refused) = record {
-        served = tt;
-        turns = tt;
-        unlinked = λ _. inr (inr (inl (
-          (at, text),
-          fails_by (IsNotOpened S first) refused.fault old new result
-              (inr (inr (record {
-                was = was;
-                found = found;
-                left = refused.left;
-                refusal = refused.refusal;
-              }))) refused.printed,
-        )));
-      }
-  served_over gives bind at options begun ended named after was old new result (Some f) None text found
-      (inr refused) = record {
-        served = tt;
-        turns = tt;
-        unlinked = λ _. inr (inr (inl (
-          (at, text),
-          refused_in (λ fault db. IsOpeningRefusal db fault) was refused.fault old new result f
-              found refused.printed refused.kept,
-        )));
-      }
-  served_over gives bind at options begun ended named after was old new result files (Some l) text found
-      (inr refused) = absurd (let none = refused.no_link in cc)
-  served_over gives bind at options begun ended named after was old new result files None text found
-      (inl over) =
-      let (opened, opening, served, put, unbound, turns) = over.worked in
-      record {
+      (was closed : FileConnection g) (committed : Result (Unit {0}) BookFault)
+      (old between new : Option (List ℕ)) (done result : Result JobStatus WriteFault)
+      (files : Option (Files D)) (link : Option BoundLink)
+      → SpellsPeer bind at → IsFoundIn held was
+      → IsUsed over_files (Served gives at options begun ended named after old between done link) was
+      closed committed
+      → HasClosed closed committed done between new result files
+      → HasServed g held gives bind options begun ended named old new result files link
+  served_over gives bind at options begun ended named after was closed committed old between new done
+      result files None text found used away = record {
         served = tt;
         turns = tt;
         unlinked = λ _. inr (inr (inr (
           (at, text),
-          opened,
-          found_book (image_at first) was opened (shown (image_at first) was found) opening,
-          unlinked old over.between new opened served over.closed over.committed over.done result
-              files opening.none_pending (unbound refl) put over.kept over.lost,
+          used.opened,
+          found_book held was used.opened (shown held was found) used.opening,
+          unlinked old between new used.opened used.left closed committed done result files
+              used.opening.none_pending (used.does.0 refl) used.closing away.kept away.lost,
         )));
       }
-  served_over gives bind at options begun ended named after was old new result files (Some l) text found
-      (inl over) =
-      let (opened, opening, served, put, unbound, (bound, serves, turns)) = over.worked in
-      let found = found_book (image_at first) was opened (shown (image_at first) was found) opening in
-      let ends = served_away served over.closed over.committed over.done result over.between new files
-      put over.kept in
+  served_over gives bind at options begun ended named after was closed committed old between new done
+      result files (Some l) text found used away =
+      let (_, (bound, serves, turns)) = used.does in
+      let opening = found_book held was used.opened (shown held was found) used.opening in
+      let ends = served_away used.left closed committed done result between new files used.closing
+      away.kept in
       record {
         served = record {
           at = (at, text, bound);
-          opened = opened;
-          found = found;
-          served = served;
+          opened = used.opened;
+          found = opening;
+          served = used.left;
           serves = serves;
-          closes_into = all_served_into served over.done result over.between new files ends;
+          closes_into = all_served_into used.left done result between new files ends;
         };
         turns = record {
-          opened = opened;
-          found = found;
-          served = served;
-          turned = over.done;
-          between = over.between;
+          opened = used.opened;
+          found = opening;
+          served = used.left;
+          turned = done;
+          between = between;
           turns = (after, turns);
           ends = ends;
-          lost = over.lost;
+          lost = away.lost;
         };
         unlinked = λ none. absurd cc;
       }
 
   -- The same, where the file is named if one was given.
-  pub served_until : {C : Type 0} (gives : C → Option ℕ → C → Type 0) (bind : List ℕ) (at : Peer)
-      (options : TurnOptions) (begun ended : C) (named given after : Bool)
-      (was : FileConnection S first)
-      (old new : Option (List ℕ)) (result : Result JobStatus WriteFault)
-      (files : Option (ClosedFiles S first)) (link : Option BoundLink) → named ≡ given
-      → SpellsPeer bind at → IsFoundIn (image_at first) was
-      → EndsOver gives (Serve at options) begun ended EndsIfNamed named after was old new result
-      files link
-      → HasServed S first gives bind options begun ended given old new result files link
-  served_until gives bind at options begun ended named given after was old new result files link
-      same text found ends =
-      subst (λ (b : Bool). HasServed S first gives bind options begun ended b old new result files
-      link) same
-      (served_over gives bind at options begun ended named after was old new result files link text
-      found ends)
+  pub named_as : {C : Type 0} (gives : C → Option ℕ → C → Type 0) (bind : List ℕ)
+      (options : TurnOptions) (begun ended : C) (named given : Bool) (old new : Option (List ℕ))
+      (result : Result JobStatus WriteFault) (files : Option (Files D)) (link : Option BoundLink)
+      → named ≡ given → HasServed g held gives bind options begun ended named old new result files link
+      → HasServed g held gives bind options begun ended given old new result files link
+  named_as gives bind options begun ended named given old new result files link same served =
+      subst (λ (b : Bool). HasServed g held gives bind options begun ended b old new result files
+      link) same served
 
   -- An address that does not read.
   pub no_peer : {C : Type 0} (gives : C → Option ℕ → C → Type 0) (bind text : List ℕ)
       (options : TurnOptions) (begun ended : C) (named : Bool) (old new : Option (List ℕ))
-      (printed result : Result JobStatus WriteFault) (files : Option (ClosedFiles S first))
+      (printed result : Result JobStatus WriteFault) (files : Option (Files D))
       (link : Option BoundLink) (made : Option Peer)
       → made ≡ None → ((p : Peer) → SpellsPeer text p → made ≡ Some p) → text ≡ bind
       → IfOk printed (λ status. (status ≡ Refused)
       × Appends old new (refused_line (codes "peer" ∷ [])))
       → result ≡ printed → link ≡ None → files ≡ None
-      → HasServed S first gives bind options begun ended named old new result files link
+      → HasServed g held gives bind options begun ended named old new result files link
   no_peer gives bind text options begun ended named old new printed result files link made none read
       same says is gone no_files =
-      subst (HasServed S first gives bind options begun ended named old new result files) (sym gone)
+      subst (HasServed g held gives bind options begun ended named old new result files) (sym gone)
       (record {
         served = tt;
         turns = tt;
@@ -521,15 +489,15 @@ module _ (S : RattleType) (first : Ghosts S.Denot) where
   -- A file that ends the turns is there already.
   pub until_there : {C : Type 0} (gives : C → Option ℕ → C → Type 0) (bind : List ℕ) (at : Peer)
       (options : TurnOptions) (begun ended : C) (named : Bool) (old new : Option (List ℕ))
-      (result : Result JobStatus WriteFault) (files : Option (ClosedFiles S first))
+      (result : Result JobStatus WriteFault) (files : Option (Files D))
       (link : Option BoundLink) → SpellsPeer bind at → named ≡ true
       → IfOk result (λ status. (status ≡ Refused)
       × Appends old new (refused_line (codes "until" ∷ [])))
       → link ≡ None → files ≡ None
-      → HasServed S first gives bind options begun ended named old new result files link
+      → HasServed g held gives bind options begun ended named old new result files link
   until_there gives bind at options begun ended named old new result files link text is says gone
       no_files =
-      subst (HasServed S first gives bind options begun ended named old new result files)
+      subst (HasServed g held gives bind options begun ended named old new result files)
       (sym gone)
       (record {
         served = tt;
@@ -537,38 +505,35 @@ module _ (S : RattleType) (first : Ghosts S.Denot) where
         unlinked = λ _. inr (inl ((at, text), is, no_files, says));
       })
 
-  unopened : (fault : OpenFault) (old new : Option (List ℕ)) (result : Result JobStatus WriteFault)
-      (files : Option (ClosedFiles S first)) → IsAbsenceOr IsFileFault fault
+  pub unopened : (fault : OpenFault) (old new : Option (List ℕ)) (result : Result JobStatus WriteFault)
+      (files : Option (Files D)) → IsAbsenceOr IsFileFault fault
       → IfOk result (λ status. (status ≡ Failed) × Appends old new (ledger_line fault))
-      → files ≡ None → IsUnopened S first old new result files
+      → files ≡ None → IsUnopened g held old new result files
   unopened fault old new result None is says none = absent_or_refused old new result (fails_by
       (IsAbsenceOr IsFileFault) fault old new result is says)
   unopened fault old new result (Some f) is says none = absurd cc
 
-  -- A ledger whose file could not be opened is not served.
+  -- A ledger that could not be opened is not served.
   pub not_served : {C : Type 0} (gives : C → Option ℕ → C → Type 0) (bind : List ℕ) (at : Peer)
-      (options : TurnOptions) (begun ended : C) (named : Bool) (fault : OpenFault) (old new : Option (List ℕ))
-      (result : Result JobStatus WriteFault) (files : Option (ClosedFiles S first))
-      (link : Option BoundLink) → SpellsPeer bind at → IsAbsenceOr IsFileFault fault
-      → IfOk result (λ status. (status ≡ Failed) × Appends old new (ledger_line fault))
-      → files ≡ None → link ≡ None
-      → HasServed S first gives bind options begun ended named old new result files link
-  not_served gives bind at options begun ended named fault old new result files link text is says none
-      gone =
-      subst (HasServed S first gives bind options begun ended named old new result files) (sym gone)
+      (options : TurnOptions) (begun ended : C) (named : Bool) (old new : Option (List ℕ))
+      (result : Result JobStatus WriteFault) (files : Option (Files D)) (link : Option BoundLink)
+      → SpellsPeer bind at → IsUnopened g held old new result files → link ≡ None
+      → HasServed g held gives bind options begun ended named old new result files link
+  not_served gives bind at options begun ended named old new result files link text refused gone =
+      subst (HasServed g held gives bind options begun ended named old new result files) (sym gone)
       (record {
         served = tt;
         turns = tt;
-        unlinked = λ _. inr (inr (inl ((at, text), unopened fault old new result files is says none)));
+        unlinked = λ _. inr (inr (inl ((at, text), refused)));
       })
 
   pub no_day : {C : Type 0} (gives : C → Option ℕ → C → Type 0) (kind : ReportKind)
       (day : Option ℕ) (begun ended : C) (old new : Option (List ℕ))
-      (printed result : Result JobStatus WriteFault) (files : Option (ClosedFiles S first))
+      (printed result : Result JobStatus WriteFault) (files : Option (Files D))
       → (¬ IsOfIssues kind) × IsTaken gives day None begun ended
       → IfOk printed (λ status. (status ≡ Failed) × Appends old new (codes "clock\n"))
       → result ≡ printed → files ≡ None
-      → HasReported S first gives kind day begun ended old new result files
+      → HasReported g held gives kind day begun ended old new result files
   no_day gives kind day begun ended old new printed result files none says same gone = inl (
     none.0,
     none.1,
@@ -578,16 +543,16 @@ module _ (S : RattleType) (first : Ghosts S.Denot) where
   )
 
   reported_away : (old new last : Option (List ℕ)) (report : Report)
-      (opened after : FileLedger S first) (closed : FileConnection S first)
+      (opened after : FileLedger g) (closed : FileConnection g)
       (committed : Result (Unit {0}) BookFault) (done result : Result JobStatus WriteFault)
-      (files : Option (ClosedFiles S first)) → opened.pending ≡ []
-      → Unchanged (λ (b : FileLedger S first). history_of over_files b)
-      (λ (b : FileLedger S first). committed_of over_files b) (λ b. b.terms)
+      (files : Option (Files D)) → opened.pending ≡ []
+      → Unchanged (λ (b : FileLedger g). history_of over_files b)
+      (λ (b : FileLedger g). committed_of over_files b) (λ b. b.terms)
       (IsHonest over_files) (IsOverCleanDisk over_files) (MayFind over_files) opened after → Writes
-      S first report opened after old new done
+      g held report opened after old new done
       → IsClosedAs over_files after closed committed
       → IfSome files (λ f. Copies closed f × EndsAs committed done new last result)
-      → IfSome files (IsReported S first opened report old last result)
+      → IfSome files (IsReported g held opened report old last result)
   reported_away old new last report opened after closed committed done result None none unchanged
       written put kept = tt
   reported_away old new last report opened after closed committed done result (Some f) none
@@ -598,85 +563,45 @@ module _ (S : RattleType) (first : Ghosts S.Denot) where
         reported = after;
         written = λ h.
             let (same, still) = as_done committed done result new last (never h) ends in
-            subst (λ text. Writes S first report opened after old text result) (sym still)
-            (subst (λ r. Writes S first report opened after old new r) (sym same) written) h;
+            subst (λ text. Writes g held report opened after old text result) (sym still)
+            (subst (λ r. Writes g held report opened after old new r) (sym same) written) h;
         unchanged = unchanged;
         closes_into = closed_into after closed committed (history_of over_files after) f put
             (λ clean opened. calls_all over_files after closed committed put
             (never (put.honest clean opened)) clean opened) copies;
       }
 
-  reported_over : {C E : Type 0} {due : E → Bool → E → Type 0} {x y : E}
-      (gives : C → Option ℕ → C → Type 0) (report : Report)
-      (begun ended : C) (was : FileConnection S first) (old new : Option (List ℕ))
-      (result : Result JobStatus WriteFault) (files : Option (ClosedFiles S first))
-      (link : Option BoundLink) → IsFoundIn (image_at first) was
-      → EndsOver gives (ReportOn report) begun ended due x y was old new result files link
-      → IsUnopened S first old new result files ⊎ IsReportOf S first report old new result files
-  reported_over gives report begun ended was old new result None link found (inr refused) =
-      inl (fails_by (IsNotOpened S first) refused.fault old new result
-      (inr (inr (record {
-        was = was;
-        found = found;
-        left = refused.left;
-        refusal = refused.refusal;
-      }))) refused.printed)
-  reported_over gives report begun ended was old new result (Some f) link found (inr refused) =
-      inl (refused_in (λ fault db. IsOpeningRefusal db fault) was refused.fault old new result f
-      found refused.printed refused.kept)
-  reported_over gives report begun ended was old new result files link found (inl over) =
-      let (opened, opening, reported, put, unchanged, written, none) = over.worked in
-      inr (
-        opened,
-        found_book (image_at first) was opened (shown (image_at first) was found) opening,
-        reported_away old over.between new report opened reported over.closed over.committed
-            over.done result files opening.none_pending unchanged written put over.kept,
-        λ gone. record {
-          reported = reported;
-          done = over.done;
-          between = over.between;
-          written = written;
-          printed = over.lost gone;
-        },
-      )
-
-  pub reported_in : {C E : Type 0} {due : E → Bool → E → Type 0} {x y : E}
-      (gives : C → Option ℕ → C → Type 0) (kind : ReportKind)
-      (day : Option ℕ) (begun between ended : C) (report : Report) (was : FileConnection S first)
-      (old new : Option (List ℕ)) (result : Result JobStatus WriteFault)
-      (files : Option (ClosedFiles S first)) (link : Option BoundLink)
-      → IsAskedFor gives kind day begun between report → IsFoundIn (image_at first) was
-      → EndsOver gives (ReportOn report) between ended due x y was old new result files link
-      → HasReported S first gives kind day begun ended old new result files
-  reported_in gives kind day begun between ended report was old new result files link asked
-      found ends = inr (
-        report,
-        between,
-        asked,
-        reported_over gives report between ended was old new result files link found ends,
-      )
-
-  -- A ledger whose file could not be opened is not reported on.
-  pub not_reported : {C : Type 0} (gives : C → Option ℕ → C → Type 0) (kind : ReportKind)
-      (day : Option ℕ) (begun between ended : C) (report : Report) (fault : OpenFault)
-      (old new : Option (List ℕ)) (result : Result JobStatus WriteFault)
-      (files : Option (ClosedFiles S first))
-      → IsAskedFor gives kind day begun between report → IsAbsenceOr IsFileFault fault
-      → IfOk result (λ status. (status ≡ Failed) × Appends old new (ledger_line fault))
-      → files ≡ None → HasReported S first gives kind day begun ended old new result files
-  not_reported gives kind day begun between ended report fault old new result files asked is
-      says none = inr (report, between, asked, inl (unopened fault old new result files is says none))
+  -- A report of a ledger that was opened, and closed again.
+  pub reported_over : (report : Report) (was closed : FileConnection g)
+      (committed : Result (Unit {0}) BookFault) (old between new : Option (List ℕ))
+      (done result : Result JobStatus WriteFault) (files : Option (Files D)) → IsFoundIn held was
+      → IsUsed over_files (IsReportedOn over_files report old between done) was closed committed
+      → HasClosed closed committed done between new result files
+      → IsReportOf g held report old new result files
+  reported_over report was closed committed old between new done result files found used away = (
+    used.opened,
+    found_book held was used.opened (shown held was found) used.opening,
+    reported_away old between new report used.opened used.left closed committed done result files
+        used.opening.none_pending used.does.unchanged used.does.written used.closing away.kept,
+    λ gone. record {
+      reported = used.left;
+      done = done;
+      between = between;
+      written = used.does.written;
+      printed = away.lost gone;
+    },
+  )
 
   -- An audit that left these files.
-  pub audited_in : (was left : FileConnection S first) (finding : Result ℕ OpenFault)
+  pub audited_in : (was left : FileConnection g) (finding : Result ℕ OpenFault)
       (old new : Option (List ℕ)) (result : Result JobStatus WriteFault)
-      (files : Option (ClosedFiles S first)) (f : ClosedFiles S first)
-      → files ≡ Some f → IsFoundIn (image_at first) was → HasFound over_files was left finding
+      (files : Option (Files D)) (f : Files D)
+      → files ≡ Some f → IsFoundIn held was → HasFound over_files was left finding
       → IfOk result (λ status. (status ≡ audit_status finding)
       × Appends old new (audit_line finding)) → LeavesClean left f → AreFilesOf left f
-      → KeepsAudited was left finding f → HasAudited S first old new result files
+      → KeepsAudited was left finding f → HasAudited g held old new result files
   audited_in was left finding old new result files f is found counted written leaves of kept =
-      subst (HasAudited S first old new result) (sym is) (record {
+      subst (HasAudited g held old new result) (sym is) (record {
         audited = record {
           opened = was;
           found = found;
@@ -695,16 +620,17 @@ module _ (S : RattleType) (first : Ghosts S.Denot) where
 
   -- An audit of a file that could not be opened.
   pub not_audited : (fault : OpenFault) (old new : Option (List ℕ))
-      (printed result : Result JobStatus WriteFault) (files : Option (ClosedFiles S first))
+      (printed result : Result JobStatus WriteFault) (files : Option (Files D))
       → IsAbsenceOr IsFileFault fault
       → IfOk printed (λ status. (status ≡ Failed) × Appends old new (ledger_line fault))
-      → result ≡ printed → files ≡ None → HasAudited S first old new result files
+      → result ≡ printed → files ≡ None → HasAudited g held old new result files
   not_audited fault old new printed result files is says same none =
-      subst (HasAudited S first old new result) (sym none) (record {
+      subst (HasAudited g held old new result) (sym none) (record {
         audited = tt;
         refused = λ _. fails_as (IsAbsenceOr IsFileFault) fault old new printed result is says same;
       })
 
+module _ (S : RattleType) (first : Ghosts S.Denot) where
   -- The job that ended is the one that was matched.
   pub ended_as : {C : Type 0} (gives : C → Option ℕ → C → Type 0) (job same : Job) (begun ended : C)
       (old new : Option (List ℕ)) (result : Result JobStatus WriteFault)

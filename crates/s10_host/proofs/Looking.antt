@@ -14,15 +14,18 @@ use Rattle.sqlite.specs.Start.{FindsIn}
 use Rattle.s10_lines.specs.declared.write_fault.WriteFault.{WriteFault}
 use Rattle.s10_rows.specs.declared.open_fault.OpenFault.{OpenFault}
 use Rattle.s10_statements.specs.ConnectionState.{IsClean}
+use Rattle.s10_book.specs.declared.book_fault.BookFault.{BookFault}
 use Rattle.s10_jobs.specs.declared.job_status.JobStatus.{JobStatus}
+use Rattle.s10_jobs.specs.declared.job_status.JobStatus.TheVariants.{Failed}
 use Rattle.s10_jobs.specs.declared.reporting.Report.{Report}
 use Rattle.s10_snapshot.specs.declared.ledger_bytes.LedgerBytes.{LedgerBytes}
 use Rattle.s10_host.specs.declared.snapshot_job.SnapshotJob.{SnapshotJob}
 use Rattle.s10_host.specs.declared.snapshot_job.SnapshotJob.TheVariants.{Report as ReportOf}
 use Rattle.s10_host.specs.Audited.{HasFound, audit_line, audit_status}
 use Rattle.s10_host.specs.Files.{IsFileFault}
-use Rattle.s10_host.specs.Jobs.{FailsByLedger}
-use Rattle.s10_host.specs.Snapshots.{AreAuditedBytes, EndsLook, HasReportedOver, IsFoundInBytes}
+use Rattle.s10_host.specs.Jobs.{FailsByLedger, ledger_line}
+use Rattle.s10_host.specs.LedgerJobs.{IsRefusedLeft, IsReportedOn, IsUsed}
+use Rattle.s10_host.specs.Snapshots.{AreAuditedBytes, EndsLook, IsFoundInBytes}
 use Rattle.s10_host.specs.Snapshots.{LooksAt, MemoryConnection, image_in, memory_files}
 use Rattle.s10_host.proofs.Opening.{found_book}
 
@@ -41,22 +44,30 @@ found_in_bytes files bytes c log db finds =
 
 -- A report over a connection to the bytes.
 pub looked_report : (bytes : LedgerBytes) (report : Report) (was left : MemoryConnection)
-    (old new : Option (List ℕ)) (result : Result JobStatus WriteFault) → IsFoundInBytes bytes was
-    → HasReportedOver over_files report was left old new result
+    (committed : Result (Unit {0}) BookFault) (old new : Option (List ℕ))
+    (result : Result JobStatus WriteFault) → IsFoundInBytes bytes was
+    → IsUsed over_files (IsReportedOn over_files report old new result) was left committed
     → LooksAt bytes (ReportOf report) left old new result
-looked_report bytes report was left old new result found (inl over) = inl (record {
-  opened = over.opened;
-  found = found_book (image_in bytes) was over.opened (λ _. found) over.opening
-      (memory_is_clean over.opened.conn);
-  reported = over.reported;
-  written = over.written (memory_is_clean left);
+looked_report bytes report was left committed old new result found used = inl (record {
+  opened = used.opened;
+  found = found_book (image_in bytes) was used.opened (λ _. found) used.opening
+      (memory_is_clean used.opened.conn);
+  reported = used.left;
+  written = λ live. used.does.written (used.closing.honest (memory_is_clean left) live);
 })
-looked_report bytes report was left old new result found (inr refused) = inr (record {
+
+-- A database in the bytes that was refused as a ledger.
+pub looked_refused : (bytes : LedgerBytes) (report : Report) (was left : MemoryConnection)
+    (fault : OpenFault) (old new : Option (List ℕ)) (result : Result JobStatus WriteFault)
+    → IsFoundInBytes bytes was → IsRefusedLeft over_files was left fault
+    → IfOk result (λ status. (status ≡ Failed) × Appends old new (ledger_line fault))
+    → LooksAt bytes (ReportOf report) left old new result
+looked_refused bytes report was left fault old new result found refusal printed = inr (record {
   was = was;
   found = found;
-  fault = refused.fault;
-  refusal = refused.refusal (memory_is_clean left);
-  printed = refused.printed;
+  fault = fault;
+  refusal = refusal (memory_is_clean left);
+  printed = printed;
 })
 
 -- An audit over a connection to the bytes.

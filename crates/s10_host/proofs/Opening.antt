@@ -33,10 +33,7 @@ use Rattle.s10_book.specs.Book.{Unchanged}
 use Rattle.s10_rows.specs.declared.open_fault.OpenFault.{OpenFault}
 use Rattle.s10_schema.specs.Schema.{IsClosedSchema}
 use Rattle.s10_statements.specs.ConnectionState.{IsClean, IsOpen, WasSound}
-use Rattle.s10_host.specs.declared.ledger_job.LedgerJob.{LedgerJob}
-use Rattle.s10_host.specs.declared.ledger_job.LedgerJob.TheVariants.{Create, Serve, Report as ReportOn, Audit}
-use Rattle.s10_host.specs.LedgerJobs.{IsMadeWith, IsOpenedFrom}
-use Rattle.s10_host.specs.LedgerJobs.{IsJobRefusal, IsRefusedBy, IsRefusedAs}
+use Rattle.s10_host.specs.LedgerJobs.{IsMadeWith, IsOpenedFrom, IsLeftByRefusal}
 use Rattle.s10_host.specs.Files.{AreFilesOf, Keeps, KeepsRefused}
 
 -- A book without pending calls has the history that its tables hold.
@@ -113,39 +110,24 @@ module _ {D : Type 0} {g : Ghosts D} where
         fresh = made.fresh;
       }
 
-  refused_by : (job : LedgerJob) (was left : Held (FileStore D g)) (fault : OpenFault)
-      → IsJobRefusal over_files job was left fault → IsClean over_files left
-      → IsOpen over_files left → IsRefusedBy job fault (file_state was).now
-  refused_by (Create terms) was left fault refusal clean opened = refusal
-  refused_by (Serve at options) was left fault refusal clean opened = refusal clean opened
-  refused_by (ReportOn report) was left fault refusal clean opened = refusal clean opened
-  refused_by Audit was left fault refusal clean opened = refusal clean opened
-
   -- The files of a refused ledger hold what they held.
-  kept_refused : (job : LedgerJob) (was left : Held (FileStore D g)) (fault : OpenFault)
-      (files : Files D) → IsRefusedAs over_files job was left fault
+  pub kept_refused : (Refuses : Database → Type 0) (was left : Held (FileStore D g))
+      (files : Files D)
+      → (IsClean over_files left → IsOpen over_files left → Refuses (file_state was).now)
+      → IsLeftByRefusal over_files was left
       → (IsOpen over_files left → (file_state left).committed ≡ (file_state left).now)
-      → AreFilesOf left files → Keeps left files → KeepsRefused was (IsRefusedBy job fault) files
-  kept_refused job was left fault files refused committed of keeps clean =
+      → AreFilesOf left files → Keeps left files → KeepsRefused was Refuses files
+  kept_refused Refuses was left files refusal refused committed of keeps clean =
       let kept = keeps clean in
       record {
         sound = (refused.sound kept.was_clean).0;
-        refused = refused_by job was left fault refused.refusal kept.was_clean kept.was_open;
+        refused = refusal kept.was_clean kept.was_open;
         left = left;
         same = refused.kept kept.was_clean kept.was_open;
         quiescent = committed kept.was_open;
         of = of;
         kept = kept;
       }
-
-  pub all_kept_refused : (job : LedgerJob) (was left : Held (FileStore D g)) (fault : OpenFault)
-      (files : Option (Files D)) → IsRefusedAs over_files job was left fault
-      → (IsOpen over_files left → (file_state left).committed ≡ (file_state left).now)
-      → IfSome files (AreFilesOf left) → IfSome files (Keeps left)
-      → IfSome files (KeepsRefused was (IsRefusedBy job fault))
-  all_kept_refused job was left fault None refused committed of keeps = tt
-  all_kept_refused job was left fault (Some f) refused committed of keeps =
-      kept_refused job was left fault f refused committed of keeps
 
   -- A connection that was found in files shows what these held.
   pub shown : (held : Image) (was : Held (FileStore D g)) → IsFoundIn held was

@@ -2,6 +2,7 @@
 use denote.RattleType.{RattleType}
 use Rattle.std.specs.Prelude.{ℕ, is_some, List, Option, Result}
 use Rattle.sqlite_disk.specs.declared.start.Start.{Ghosts}
+use Rattle.sqlite_wal.specs.Files.{image_at}
 use Rattle.s10_lines.specs.declared.write_fault.WriteFault.{WriteFault}
 use Rattle.s10_jobs.specs.declared.job.Job.{Job}
 use Rattle.s10_jobs.specs.declared.job.Job.TheVariants as job
@@ -9,7 +10,7 @@ use Rattle.s10_jobs.specs.declared.job_status.JobStatus.{JobStatus}
 use Rattle.s10_host.specs.declared.job_resources.JobResources.{JobResources}
 use Rattle.s10_host.specs.JobResources.{files_in, link_in, looped_in, notes_in, snapshot_in, copy_in}
 use Rattle.s10_host.specs.Copying.{HasCopied}
-use Rattle.s10_host.specs.Files.{ClosedFiles}
+use Rattle.s10_host.specs.Files.{ClosedFiles, system_files}
 use Rattle.s10_host.specs.Jobs.{HasCreated, HasServed, HasReported, HasAudited, IsRunOn}
 use Rattle.s10_host.specs.Asking.{HasAsked}
 use Rattle.s10_host.specs.NotesJobs.{HasMadeNotes, HasAskedAgain}
@@ -21,10 +22,10 @@ module _ (S : RattleType) (first : Ghosts S.Denot) where
       → Option (List ℕ) → Option (List ℕ) → Result JobStatus WriteFault
       → JobResources (ClosedFiles S first) → Type 0
   HasEnded gives (job.Create ledger settings) begun ended old new result used =
-      HasCreated S first settings old new result (files_in used)
+      HasCreated (system_files S first) (image_at first) settings old new result (files_in used)
   HasEnded gives (job.Serve ledger bind options until) begun ended old new result used =
-      HasServed S first gives bind.now options begun ended (is_some until) old new result
-      (files_in used) (link_in used)
+      HasServed (system_files S first) (image_at first) gives bind.now options begun ended
+      (is_some until) old new result (files_in used) (link_in used)
   HasEnded gives (job.Ask question) begun ended old new result used =
       HasAsked question.asker question old new result (link_in used) (notes_in used)
   HasEnded gives (job.Notes file customer first lst) begun ended old new result used =
@@ -32,9 +33,9 @@ module _ (S : RattleType) (first : Ghosts S.Denot) where
   HasEnded gives (job.Again to path tries) begun ended old new result used =
       HasAskedAgain to.now path.now tries old new result (link_in used) (notes_in used)
   HasEnded gives (job.Report ledger kind day) begun ended old new result used =
-      HasReported S first gives kind day begun ended old new result (files_in used)
+      HasReported (system_files S first) (image_at first) gives kind day begun ended old new result (files_in used)
   HasEnded gives (job.Audit ledger) begun ended old new result used =
-      HasAudited S first old new result (files_in used)
+      HasAudited (system_files S first) (image_at first) old new result (files_in used)
   HasEnded gives (job.Snapshot ledger look) begun ended old new result used =
       HasLooked gives ledger.now look begun ended old new result (snapshot_in used)
   HasEnded gives (job.Copy ledger to) begun ended old new result used =

@@ -162,13 +162,13 @@ abbrev pub system_files : (S : RattleType) (first : start.Ghosts S.Denot)
 system_files S first = disk.ghosts host.the_row S calls.ghosts disk.no_dict first disk.no_dict
     disk.no_dict
 
--- A connection over files of the operating system, with these initial contents.
-abbrev pub FileConnection : (S : RattleType) → start.Ghosts S.Denot → Type 0
-FileConnection S first = Held (FileStore (SystemFile S first) (system_files S first))
+-- A connection over two files.
+abbrev pub FileConnection : {D : Type 0} → Ghosts D → Type 0
+FileConnection {D} g = Held (FileStore D g)
 
 -- A ledger over the tables of such a connection.
-abbrev pub FileLedger : (S : RattleType) → start.Ghosts S.Denot → Type 0
-FileLedger S first = Ledger (FileStore (SystemFile S first) (system_files S first))
+abbrev pub FileLedger : {D : Type 0} → Ghosts D → Type 0
+FileLedger {D} g = Ledger (FileStore D g)
 
 -- The log and the database file, closed.
 abbrev pub ClosedFiles : (S : RattleType) → start.Ghosts S.Denot → Type 0
@@ -182,17 +182,18 @@ IsFileFault fault = (fault ≡ Memory) ⊎ (fault ≡ Store)
 abbrev pub IsAbsenceOr : (OpenFault → Type 0) → OpenFault → Type 0
 IsAbsenceOr IsFault fault = (fault ≡ NotALedger) ⊎ IsFault fault
 
-module _ (S : RattleType) (first : start.Ghosts S.Denot) where
+-- `held` is what the two files held at first.
+module _ {D : Type 0} (g : Ghosts D) (held : Image) where
   -- The database that was found in the files is refused for a new ledger.
   pub record IsRefusedPlace (fault : OpenFault) : Type 0 where
-    pub was : FileConnection S first
-    pub found : IsFoundIn (image_at first) was
+    pub was : FileConnection g
+    pub found : IsFoundIn held was
     pub refusal : IsCreateRefusal (file_state was).now.schema fault
 
   -- The database file was found empty and its log not, if both are clean.
   pub record IsFoundEmptied : Type 0 where
-    pub files : ClosedFiles S first
-    pub emptied : AreClean (system_files S first) files.log files.db → IsEmptied (image_at first)
+    pub files : Files D
+    pub emptied : AreClean g files.log files.db → IsEmptied held
 
   -- The files could not be opened as a database, or they were emptied, which is this fault.
   abbrev pub IsUnopenedAs : OpenFault → OpenFault → Type 0
@@ -205,9 +206,9 @@ module _ (S : RattleType) (first : start.Ghosts S.Denot) where
   -- The database that was found in the files is refused as a ledger, if the disk is clean and the
   -- connection open.
   pub record IsRefusedLedger (fault : OpenFault) : Type 0 where
-    pub was : FileConnection S first
-    pub found : IsFoundIn (image_at first) was
-    pub left : FileConnection S first
+    pub was : FileConnection g
+    pub found : IsFoundIn held was
+    pub left : FileConnection g
     pub refusal : IsClean over_files left → IsOpen over_files left
         → IsOpeningRefusal (file_state was).now fault
 

@@ -1,11 +1,11 @@
 -- Defines what each job has done when it ends, and what it has printed.
-use denote.RattleType.{RattleType}
 use Rattle.std.specs.Prelude.{◌≡◌, ◌≢◌, ◌⊎◌, ℕ, Bool, true, List, [], ◌∷◌, ◌++◌, codes}
 use Rattle.std.specs.Prelude.{Option}
 use Rattle.std.specs.Prelude.{Some, None, Result, Ok, Err, IsOk, IfOk, IfSome}
 use Rattle.std.specs.Io.KnownBytes.{Appends}
-use Rattle.sqlite_disk.specs.declared.start.Start.{Ghosts}
-use Rattle.sqlite_wal.specs.Files.{image_at}
+use Rattle.sqlite_disk.specs.declared.Disk as disk
+use Rattle.sqlite_disk.specs.declared.Files.{Files}
+use Rattle.sqlite_wal.specs.Recovery.{Image}
 use Rattle.sqlite_wal.specs.Reads.{AreClean}
 use Rattle.sqlite.specs.Effect.{Database}
 use Rattle.sqlite.specs.Files.{over_files}
@@ -37,10 +37,10 @@ use Rattle.s10_jobs.specs.Days.{IsTaken}
 use Rattle.s10_host.specs.declared.loop_resources.LoopResources.{LoopResources}
 use Rattle.s10_host.specs.Closing.{ServesOver, TurnsUntil}
 use Rattle.s10_host.specs.LoopRun.{HasRunLoop}
-use Rattle.s10_host.specs.Files.{FileConnection, FileLedger, ClosedFiles, WhereClean, IsFoundIn}
+use Rattle.s10_host.specs.Files.{FileConnection, FileLedger, WhereClean, IsFoundIn, Copies}
 use Rattle.s10_host.specs.Files.{IsEmptyBook, IsFoundBook, ClosesInto, LeavesClean, IsFileFault}
 use Rattle.s10_host.specs.Files.{IsAbsenceOr, IsNotMade, IsNotOpened, HoldsRefused, AreFilesOf}
-use Rattle.s10_host.specs.Files.{IsReadFrom, system_files}
+use Rattle.s10_host.specs.Files.{IsReadFrom}
 use Rattle.s10_statements.specs.Creating.{IsCreateRefusal}
 use Rattle.s10_ledger.specs.Refusals.{IsOpeningRefusal}
 
@@ -68,6 +68,14 @@ abbrev pub EndsAs : Result (Unit {0}) BookFault → Result JobStatus WriteFault 
 EndsAs (Ok _) done between new result = (result ≡ done) × (new ≡ between)
 EndsAs (Err fault) done between new result = FailsByClosing done between new result
 
+-- How the files of a ledger were closed after a job that ended with `done`, and how it ended then.
+pub record HasClosed {D : Type 0} {g : disk.Ghosts D} (closed : FileConnection g)
+    (committed : Result (Unit {0}) BookFault) (done : Result JobStatus WriteFault)
+    (between new : Option (List ℕ)) (result : Result JobStatus WriteFault)
+    (files : Option (Files D)) : Type 0 where
+  pub kept : IfSome files (λ f. Copies closed f × EndsAs committed done between new result)
+  pub lost : files ≡ None → FailsByClosing done between new result
+
 -- The report is the one asked for: that of the issues, or another one on the given day or, if none is
 -- given, on the first day that the source gave.
 pub record IsAskedFor {C : Type 0} (gives : C → Option ℕ → C → Type 0) (kind : ReportKind)
@@ -87,52 +95,52 @@ IsRunOn gives day begun ended old new result looped =
     ⊎ (IsTaken gives day None begun ended × (looped ≡ None)
     × IfOk result (λ status. (status ≡ Failed) × Appends old new (codes "clock\n")))
 
-module _ (S : RattleType) (first : Ghosts S.Denot) where
+-- `held` is what the files of the ledger held at first.
+module _ {D : Type 0} (g : disk.Ghosts D) (held : Image) where
   -- The database in the files is refused for such a reason, and the line says for which. The files
   -- hold what they held, if both kept what was written.
   pub record IsRefusedIn (Refuses : OpenFault → Database → Type 0) (old new : Option (List ℕ))
-      (result : Result JobStatus WriteFault) (files : ClosedFiles S first) : Type 0 where
+      (result : Result JobStatus WriteFault) (files : Files D) : Type 0 where
     pub fault : OpenFault
     pub printed : IfOk result (λ status. (status ≡ Failed) × Appends old new (ledger_line fault))
-    pub kept : AreClean (system_files S first) files.log files.db
-        → (was : FileConnection S first) × IsReadFrom (image_at first) was
+    pub kept : AreClean g files.log files.db
+        → (was : FileConnection g) × IsReadFrom held was
         × HoldsRefused was (Refuses fault) files
 
   -- An empty ledger with these settings was created, and closed in these files.
-  pub record HasMadeLedger (terms : Terms) (files : ClosedFiles S first) : Type 0 where
-    pub book : FileLedger S first
+  pub record HasMadeLedger (terms : Terms) (files : Files D) : Type 0 where
+    pub book : FileLedger g
     pub settings : book.terms ≡ terms
-    pub empty : WhereClean (IsEmptyBook (image_at first)) book
+    pub empty : WhereClean (IsEmptyBook held) book
     pub closes_into : ClosesInto book [] files
 
   -- A ledger was created, and only then `created` was printed. Or the line says why there is none.
   pub record HasCreated (terms : Terms) (old new : Option (List ℕ))
-      (result : Result JobStatus WriteFault) (files : Option (ClosedFiles S first)) : Type 0 where
+      (result : Result JobStatus WriteFault) (files : Option (Files D)) : Type 0 where
     pub closed : IfSome files (λ f. (HasMadeLedger terms f × IfOk result (λ status. (status ≡ Done)
         × Appends old new (codes "created\n")))
         ⊎ IsRefusedIn (λ fault db. IsCreateRefusal db.schema fault) old new result f)
-    pub refused : files ≡ None → IfOk result (FailsByLedger (IsNotMade S first) old new)
+    pub refused : files ≡ None → IfOk result (FailsByLedger (IsNotMade g held) old new)
 
   -- How the service of a ledger ended, and which calls its files hold: all calls, or the committed
   -- ones if the line says that the others could not be committed.
-  abbrev pub EndsServed : FileLedger S first → Result JobStatus WriteFault → Option (List ℕ)
-      → Option (List ℕ) → Result JobStatus WriteFault → ClosedFiles S first → Type 0
+  abbrev pub EndsServed : FileLedger g → Result JobStatus WriteFault → Option (List ℕ)
+      → Option (List ℕ) → Result JobStatus WriteFault → Files D → Type 0
   EndsServed served turned between new result files =
       ((result ≡ turned) × (new ≡ between)
       × ClosesInto served (history_of over_files served) files)
       ⊎ (FailsByClosing turned between new result
       × ClosesInto served (committed_of over_files served) files)
 
-  -- What a server did to the ledger in the files, with all that the link carried, at the address. The
-  -- ledger was found in the files as it was when it was opened. If the closed files kept what was
-  -- written, it was honest when it was closed, and they hold all its calls, or, if the status is not
-  -- `Done`, the committed ones.
+  -- What a server at the address did to the ledger that it found in the files, with all that the link
+  -- carried. If the closed files kept what was written, the ledger was honest when it was closed, and
+  -- they hold all its calls, or, if the status is not `Done`, the committed ones.
   pub record ServesFiles (bind : List ℕ) (result : Result JobStatus WriteFault)
-      (files : Option (ClosedFiles S first)) (link : BoundLink) : Type 0 where
+      (files : Option (Files D)) (link : BoundLink) : Type 0 where
     pub at : (at : Peer) × SpellsPeer bind at × IsBoundAt at link.at
-    pub opened : FileLedger S first
-    pub found : WhereClean (IsFoundBook (image_at first)) opened
-    pub served : FileLedger S first
+    pub opened : FileLedger g
+    pub found : WhereClean (IsFoundBook held) opened
+    pub served : FileLedger g
     pub serves : ServesOver over_files opened served link
     pub closes_into : IfSome files (λ f. ClosesInto served (history_of over_files served) f
         ⊎ ((result ≢ Ok Done) × ClosesInto served (committed_of over_files served) f))
@@ -140,11 +148,11 @@ module _ (S : RattleType) (first : Ghosts S.Denot) where
   -- The ledger was served in turns, and closed in these files, or it could not be closed.
   pub record IsServed {C : Type 0} (gives : C → Option ℕ → C → Type 0)
       (options : TurnOptions) (begun ended : C) (named : Bool) (old new : Option (List ℕ))
-      (result : Result JobStatus WriteFault) (files : Option (ClosedFiles S first))
+      (result : Result JobStatus WriteFault) (files : Option (Files D))
       (link : BoundLink) : Type 0 where
-    pub opened : FileLedger S first
-    pub found : WhereClean (IsFoundBook (image_at first)) opened
-    pub served : FileLedger S first
+    pub opened : FileLedger g
+    pub found : WhereClean (IsFoundBook held) opened
+    pub served : FileLedger g
     pub turned : Result JobStatus WriteFault
     pub between : Option (List ℕ)
     pub turns : TurnsUntil over_files gives options begun ended named opened served old between turned link
@@ -152,8 +160,8 @@ module _ (S : RattleType) (first : Ghosts S.Denot) where
     pub lost : files ≡ None → FailsByClosing turned between new result
 
   -- The ledger was opened, and its address could not be bound.
-  pub record IsUnlinked (opened : FileLedger S first) (old new : Option (List ℕ))
-      (result : Result JobStatus WriteFault) (files : Option (ClosedFiles S first)) : Type 0 where
+  pub record IsUnlinked (opened : FileLedger g) (old new : Option (List ℕ))
+      (result : Result JobStatus WriteFault) (files : Option (Files D)) : Type 0 where
     pub closes_into : IfSome files (ClosesInto opened (history_of over_files opened))
     pub printed : IfSome files (λ _. IfOk result (λ status. (status ≡ Failed)
         × Appends old new (line_of (codes "link") (codes "bind" ∷ []))))
@@ -164,36 +172,36 @@ module _ (S : RattleType) (first : Ghosts S.Denot) where
   -- The ledger in the files cannot be opened, and the line says why. If its files are returned, they
   -- hold what they held.
   abbrev pub IsUnopened : Option (List ℕ) → Option (List ℕ) → Result JobStatus WriteFault
-      → Option (ClosedFiles S first) → Type 0
-  IsUnopened old new result None = IfOk result (FailsByLedger (IsNotOpened S first) old new)
+      → Option (Files D) → Type 0
+  IsUnopened old new result None = IfOk result (FailsByLedger (IsNotOpened g held) old new)
   IsUnopened old new result (Some files) =
       IsRefusedIn (λ fault db. IsOpeningRefusal db fault) old new result files
 
   -- Why there is no link, in this order: the address does not read, the file that ends the turns is
   -- there, the ledger cannot be opened, the address cannot be bound.
   abbrev pub HasNoLink : List ℕ → Bool → Option (List ℕ) → Option (List ℕ) → Result JobStatus WriteFault
-      → Option (ClosedFiles S first) → Type 0
+      → Option (Files D) → Type 0
   HasNoLink bind named old new result files =
       ((¬ IsPeerText bind) × (files ≡ None) × IfOk result (λ status. (status ≡ Refused)
       × Appends old new (refused_line (codes "peer" ∷ []))))
       ⊎ (IsPeerText bind × (named ≡ true) × (files ≡ None) × IfOk result (λ status.
       (status ≡ Refused) × Appends old new (refused_line (codes "until" ∷ []))))
       ⊎ (IsPeerText bind × IsUnopened old new result files)
-      ⊎ (IsPeerText bind × (opened : FileLedger S first) × WhereClean (IsFoundBook (image_at first))
+      ⊎ (IsPeerText bind × (opened : FileLedger g) × WhereClean (IsFoundBook held)
       opened × IsUnlinked opened old new result files)
 
   -- The ledger in the files was served at the address, in turns. Or there is no link, and the line
   -- says why.
   pub record HasServed {C : Type 0} (gives : C → Option ℕ → C → Type 0) (bind : List ℕ)
       (options : TurnOptions) (begun ended : C) (named : Bool) (old new : Option (List ℕ))
-      (result : Result JobStatus WriteFault) (files : Option (ClosedFiles S first))
+      (result : Result JobStatus WriteFault) (files : Option (Files D))
       (link : Option BoundLink) : Type 0 where
     pub served : IfSome link (ServesFiles bind result files)
     pub turns : IfSome link (IsServed gives options begun ended named old new result files)
     pub unlinked : link ≡ None → HasNoLink bind named old new result files
 
   -- The report of the ledger's history was printed, unless the book or the writer failed.
-  abbrev pub Writes : Report → FileLedger S first → FileLedger S first → Option (List ℕ)
+  abbrev pub Writes : Report → FileLedger g → FileLedger g → Option (List ℕ)
       → Option (List ℕ) → Result JobStatus WriteFault → Type 0
   Writes report opened reported old new result =
       IsHonest over_files reported
@@ -201,20 +209,20 @@ module _ (S : RattleType) (first : Ghosts S.Denot) where
       (report_lines report (history_of over_files opened) opened.terms))
 
   -- The ledger was reported on, and closed in these files.
-  pub record IsReported (opened : FileLedger S first) (report : Report) (old new : Option (List ℕ))
-      (result : Result JobStatus WriteFault) (files : ClosedFiles S first) : Type 0 where
-    pub reported : FileLedger S first
+  pub record IsReported (opened : FileLedger g) (report : Report) (old new : Option (List ℕ))
+      (result : Result JobStatus WriteFault) (files : Files D) : Type 0 where
+    pub reported : FileLedger g
     pub written : Writes report opened reported old new result
-    pub unchanged : Unchanged (λ (b : FileLedger S first). history_of over_files b)
-        (λ (b : FileLedger S first). committed_of over_files b) (λ b. b.terms) (IsHonest over_files)
+    pub unchanged : Unchanged (λ (b : FileLedger g). history_of over_files b)
+        (λ (b : FileLedger g). committed_of over_files b) (λ b. b.terms) (IsHonest over_files)
         (IsOverCleanDisk over_files) (MayFind over_files)
         opened reported
     pub closes_into : ClosesInto reported (history_of over_files reported) files
 
   -- The ledger was reported on, and could not be closed.
-  pub record IsReportedAndLost (opened : FileLedger S first) (report : Report)
+  pub record IsReportedAndLost (opened : FileLedger g) (report : Report)
       (old new : Option (List ℕ)) (result : Result JobStatus WriteFault) : Type 0 where
-    pub reported : FileLedger S first
+    pub reported : FileLedger g
     pub done : Result JobStatus WriteFault
     pub between : Option (List ℕ)
     pub written : Writes report opened reported old between done
@@ -222,9 +230,9 @@ module _ (S : RattleType) (first : Ghosts S.Denot) where
 
   -- The ledger was opened from the files, and the report was printed.
   abbrev pub IsReportOf : Report → Option (List ℕ) → Option (List ℕ)
-      → Result JobStatus WriteFault → Option (ClosedFiles S first) → Type 0
+      → Result JobStatus WriteFault → Option (Files D) → Type 0
   IsReportOf report old new result files =
-      (opened : FileLedger S first) × WhereClean (IsFoundBook (image_at first)) opened
+      (opened : FileLedger g) × WhereClean (IsFoundBook held) opened
       × IfSome files (IsReported opened report old new result)
       × (files ≡ None → IsReportedAndLost opened report old new result)
 
@@ -233,31 +241,31 @@ module _ (S : RattleType) (first : Ghosts S.Denot) where
   abbrev pub HasReported : {C : Type 0} → (C → Option ℕ → C → Type 0) → ReportKind → Option ℕ → C
       → C
       → Option (List ℕ) → Option (List ℕ) → Result JobStatus WriteFault
-      → Option (ClosedFiles S first) → Type 0
+      → Option (Files D) → Type 0
   HasReported gives kind day begun ended old new result files =
       (¬ IsOfIssues kind × IsTaken gives day None begun ended × (files ≡ None)
       × IfOk result (λ status. (status ≡ Failed) × Appends old new (codes "clock\n")))
-      ⊎ ((report : Report) × (taken : _) × IsAskedFor gives kind day begun taken report
+      ⊎ ((report : Report) × IsAskedFor gives kind day begun ended report
       × (IsUnopened old new result files ⊎ IsReportOf report old new result files))
 
   -- The ledger in the files was audited, the finding was printed, and the files were closed as they
   -- are, without a write. They hold what they held, if both kept what was written.
   pub record IsAudited (old new : Option (List ℕ)) (result : Result JobStatus WriteFault)
-      (files : ClosedFiles S first) : Type 0 where
-    pub opened : FileConnection S first
-    pub found : IsFoundIn (image_at first) opened
-    pub left : FileConnection S first
+      (files : Files D) : Type 0 where
+    pub opened : FileConnection g
+    pub found : IsFoundIn held opened
+    pub left : FileConnection g
     pub finding : Result ℕ OpenFault
     pub counted : HasFound over_files opened left finding
     pub written : IfOk result (λ status. (status ≡ audit_status finding)
         × Appends old new (audit_line finding))
     pub leaves : LeavesClean left files
     pub of : AreFilesOf left files
-    pub kept : AreClean (system_files S first) files.log files.db
-        → IsReadFrom (image_at first) opened × HoldsAudited opened left finding files
+    pub kept : AreClean g files.log files.db
+        → IsReadFrom held opened × HoldsAudited opened left finding files
 
   -- The ledger was audited, or the line says why the files could not be opened.
   pub record HasAudited (old new : Option (List ℕ)) (result : Result JobStatus WriteFault)
-      (files : Option (ClosedFiles S first)) : Type 0 where
+      (files : Option (Files D)) : Type 0 where
     pub audited : IfSome files (IsAudited old new result)
     pub refused : files ≡ None → IfOk result (FailsByLedger (IsAbsenceOr IsFileFault) old new)

@@ -6,7 +6,6 @@ use Rattle.sqlite_disk.specs.declared.Disk as disk
 use Rattle.sqlite_disk.specs.declared.memory.Memory.{Memory}
 use Rattle.sqlite_disk.specs.contracts.memory.MemoryDisk.TheImpl as memory
 use Rattle.sqlite_wal.specs.Recovery.{Image}
-use Rattle.sqlite_trees.specs.declared.store.Store.{Ghosts}
 use Rattle.sqlite_store.specs.declared.store.FileStore.{FileStore}
 use Rattle.sqlite.specs.Files.{over_files, file_state, IsOpened}
 use Rattle.sqlite.specs.Held.{Held}
@@ -36,32 +35,7 @@ use Rattle.s10_host.specs.declared.snapshot_resources.SnapshotResources.{Snapsho
 use Rattle.s10_host.specs.Audited.{IsFinding, audit_line, audit_status}
 use Rattle.s10_host.specs.Files.{IsFileFault, IsFoundBook}
 use Rattle.s10_host.specs.Jobs.{FailsByLedger, IsAskedFor, ledger_line}
-use Rattle.s10_host.specs.LedgerJobs.{IsOpenedFrom, IsRefusedLeft}
-use Rattle.s10_statements.specs.ConnectionState.{IsClean, IsOpen}
-
-module _ {S : Type 0} (g : Ghosts S) (was left : Held S) (old new : Option (List ℕ))
-    (result : Result JobStatus WriteFault) where
-  -- A ledger was opened from what a connection showed, and the report of its history was printed, if
-  -- the disk is clean and the connection open at the end.
-  pub record ReportsOver (report : Report) : Type 0 where
-    pub opened : Ledger S
-    pub opening : IsOpenedFrom g was opened
-    pub reported : Ledger S
-    pub written : IsClean g left → IsOpen g left
-        → IfOk result (PrintsReport opened.faults reported.faults old new
-        (report_lines report (history_of g opened) opened.terms))
-
-  -- What a connection showed was refused as a ledger, and the line says why.
-  pub record RefusesOver : Type 0 where
-    pub fault : OpenFault
-    pub refusal : IsRefusedLeft g was left fault
-    pub printed : IfOk result (λ status. (status ≡ Failed) × Appends old new (ledger_line fault))
-
--- The ledger of a connection was reported on, or refused.
-abbrev pub HasReportedOver : {S : Type 0} → Ghosts S → Report → Held S → Held S → Option (List ℕ)
-    → Option (List ℕ) → Result JobStatus WriteFault → Type 0
-HasReportedOver g report was left old new result =
-    ReportsOver g was left old new result report ⊎ RefusesOver g was left old new result
+use Rattle.s10_statements.specs.ConnectionState.{IsOpen}
 
 -- What the kit says of files in memory.
 abbrev pub memory_files : disk.Ghosts Memory

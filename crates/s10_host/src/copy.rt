@@ -8,11 +8,11 @@ ghost use Rattle.s10_host.specs.Copying.{copied_line, copy_fault_line, copy_faul
 ghost use Rattle.s10_host.specs.JobResources.{copy_in};
 
 use crate::audit::audit_ledger;
+use crate::closing::not_connected;
 use crate::copy_resources::CopyResources;
 use crate::drawn_seed::drawn_seed;
 use crate::job_end::JobEnd;
 use crate::job_resources::JobResources;
-use crate::on_file::not_connected;
 use crate::progress::Progress;
 use crate::snapshot::{connect_to_bytes, fail_by_snapshot};
 use crate::snapshot_resources::MemoryConnection;

@@ -5,7 +5,7 @@ ghost use Rattle.sqlite.specs.Files.{file_state, over_files};
 ghost use Rattle.s10_statements.specs.ConnectionState.{IsOpen};
 ghost use Rattle.sqlite_wal.specs.Files.{image_at};
 ghost use Rattle.s10_host.specs.Files.{IsFoundIn, IsPlain, Copies, Keeps, AreFilesOf};
-ghost use Rattle.s10_host.specs.Files.{IsFileFault, IsAbsenceOr, IsUnopenedAs};
+ghost use Rattle.s10_host.specs.Files.{system_files, IsFileFault, IsAbsenceOr, IsUnopenedAs};
 
 use crate::ledger_file::{LedgerFile, len_of};
 use crate::opened_files::{Unopened, is_no_path, open_with_cache};
@@ -140,7 +140,8 @@ pub(crate) fn connect_to_new<S: Start>(
     ensures idle { IfOk result (λ connection. connection.in_transaction ≡ false) }
     ensures found { IfOk result (IsFoundIn (image_at S.Start)) }
     ensures plain { IfOk result (IsPlain (image_at S.Start)) }
-    ensures refused { IfErr result (IsUnopenedAs S.row S.Start OpenFault.NotEmpty) }
+    ensures refused { IfErr result (IsUnopenedAs (system_files S.row S.Start) (image_at S.Start)
+        OpenFault.NotEmpty) }
 {
     match file.fault_of_new(rt) {
         None => connect(rt, file, OpenFault::NotEmpty, start),
@@ -199,7 +200,8 @@ fn connect<S: Start>(
     ensures idle { IfOk result (λ connection. connection.in_transaction ≡ false) }
     ensures found { IfOk result (IsFoundIn (image_at S.Start)) }
     ensures plain { IfOk result (IsPlain (image_at S.Start)) }
-    ensures refused { IfErr result (IsUnopenedAs S.row S.Start of_emptied) }
+    ensures refused { IfErr result (IsUnopenedAs (system_files S.row S.Start) (image_at S.Start)
+        of_emptied) }
 {
     eprint_size(rt, file.path);
     match open_with_cache(rt, file.path, start) {

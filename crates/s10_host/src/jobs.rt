@@ -38,9 +38,7 @@ pub fn run_job<'a, S: Start, D: Days, W: Write>(
         (W.contents out.new) result.done result.resources }
 {
     match job {
-        Job::Create { ledger, settings } => run_create(
-            rt, *ledger, *settings, seed, start, days, out,
-        ),
+        Job::Create { ledger, settings } => run_create(rt, *ledger, *settings, seed, start, out),
         Job::Serve {
             ledger,
             bind,
@@ -58,7 +56,7 @@ pub fn run_job<'a, S: Start, D: Days, W: Write>(
         Job::Report { ledger, kind, day } => run_report(
             rt, *ledger, *kind, *day, seed, start, days, out,
         ),
-        Job::Audit { ledger } => run_audit_on_file(rt, *ledger, seed, start, days, out),
+        Job::Audit { ledger } => run_audit_on_file(rt, *ledger, seed, start, out),
         Job::Snapshot { ledger, look } => run_snapshot(rt, *ledger, *look, seed, days, out),
         Job::Copy { ledger, to } => run_copy(rt, *ledger, *to, seed, out),
         Job::Loop { day } => run_loop_on(rt, *day, days, out),

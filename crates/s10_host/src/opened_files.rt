@@ -61,7 +61,8 @@ pub(crate) fn open_with_cache<S: Start>(
     ensures idle { IfOk result (λ connection. connection.in_transaction ≡ false) }
     ensures found { IfOk result (IsFoundIn (image_at S.Start)) }
     ensures plain { IfOk result (IsPlain (image_at S.Start)) }
-    ensures emptied { IfErr result (λ e. e.0 ≡ Unopened.Emptied → IsFoundEmptied S.row S.Start) }
+    ensures emptied { IfErr result (λ e. e.0 ≡ Unopened.Emptied → IsFoundEmptied
+        (system_files S.row S.Start) (image_at S.Start)) }
 {
     let files = match open_whole(rt, path, start) {
         Ok(files) => files,
@@ -92,7 +93,8 @@ fn open_whole<S: Start>(
         ≡ image_at S.Start) }
     ensures whole { IfOk result (λ files. AreClean (system_files S.row S.Start) files.log files.db
         → ¬ IsEmptied (image_at S.Start)) }
-    ensures emptied { IfErr result (λ e. e.0 ≡ Unopened.Emptied → IsFoundEmptied S.row S.Start) }
+    ensures emptied { IfErr result (λ e. e.0 ≡ Unopened.Emptied → IsFoundEmptied
+        (system_files S.row S.Start) (image_at S.Start)) }
 {
     let mut files = match open_pair(rt, path, start) {
         Ok(files) => files,

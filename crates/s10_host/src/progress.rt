@@ -1,6 +1,5 @@
 //! Prints the progress of the creation or opening of a ledger in a file to standard error.
 
-use crate::ledger_job::LedgerJob;
 use s10_ledger::{Observer, OpenFault, Refusal};
 use sqlite::Error;
 use std::time::{Duration, Instant};
@@ -26,12 +25,9 @@ impl<'a> Progress<'a> {
         Progress { rt, path, spoke }
     }
 
-    // Prints why no ledger was created, if one was asked for and no statement failed.
-    pub(crate) fn eprint_not_created(&self, job: &LedgerJob, refusal: &Refusal) {
-        if let LedgerJob::Create(_) = job
-            && refusal.fault == OpenFault::Store
-            && refusal.cause.is_none()
-        {
+    // Prints why no ledger was created, if no statement failed.
+    pub(crate) fn eprint_not_created(&self, refusal: &Refusal) {
+        if refusal.fault == OpenFault::Store && refusal.cause.is_none() {
             let _ = eprintln!(self.rt;
                 "cannot create a ledger in {}: it has tables of its own",
                 self.path

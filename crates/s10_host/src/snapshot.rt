@@ -9,22 +9,23 @@ ghost use Rattle.s10_host.specs.Jobs.{ledger_line, FailsByLedger};
 ghost use Rattle.s10_host.specs.Snapshots.{HasLooked, LooksAt, IsFoundInBytes, snapshot_line};
 
 use crate::audit::run_audit;
+use crate::closing::not_connected;
 use crate::drawn_seed::drawn_seed;
 use crate::files::fault_of_opening;
 use crate::job_end::JobEnd;
 use crate::job_resources::JobResources;
-use crate::on_file::not_connected;
 use crate::progress::Progress;
 use crate::report_over::report_over;
 use crate::snapshot_job::{SnapshotJob, job_of};
 use crate::snapshot_resources::{MemoryConnection, SnapshotResources};
 use s10_jobs::{Days, JobStatus, Look, fail_by_busy, fail_by_clock, fail_by_ledger};
-use s10_ledger::{HashSeed, OpenFault};
+use s10_ledger::{ClosedBook, HashSeed, OpenFault, Refused};
 use s10_lines::WriteFault;
 use s10_snapshot::{
     HostSource, LedgerBytes, ReadFault, SnapshotFault, memory_files, take_snapshot,
 };
-use sqlite::{Connection, Options};
+use sqlite::{Connection, FileStore, Options};
+use sqlite_disk::Memory;
 use std::io;
 use std::io::Write;
 
@@ -108,16 +109,35 @@ fn look_over<W: Write>(
 {
     let mut progress = Progress::new(rt, path);
     match job {
-        SnapshotJob::Report(report) => report_over(
+        SnapshotJob::Report(report) => match report_over(
             rt.alloc(),
             seed,
             connection,
             report,
             &mut progress,
             out,
-        ),
+        ) {
+            Ok((done, ledger)) => (done, connection_of(ledger)),
+            Err(
+                Refused {
+                    refusal,
+                    connection,
+                },
+            ) => (fail_by_ledger(refusal.fault, out), connection),
+        },
         SnapshotJob::Audit => run_audit(rt.alloc(), seed, connection, &mut progress, out),
     }
+}
+
+// Returns the connection of a ledger that was closed.
+fn connection_of(ledger: ClosedBook<FileStore<Memory>>) -> MemoryConnection
+    ensures { result ≡ ledger.connection }
+{
+    let ClosedBook {
+        connection,
+        committed: _,
+    } = ledger;
+    connection
 }
 
 /// Opens the bytes as a database on a disk in memory. Prints to standard error why they cannot be

@@ -1,51 +1,50 @@
-use Rattle.std.proofs.Common.{ap, refl, inr}
-use Rattle.s10_host.specs.JobResources.{files_in, link_in}
-use Rattle.s10_host.proofs.Ending.{asked_for, no_report, no_day, reported_in, not_reported}
+use Rattle.std.proofs.Common.{ap, refl, inl, inr}
+use Rattle.sqlite_wal.specs.Files.{image_at}
+use Rattle.s10_host.specs.JobResources.{files_in}
+use Rattle.s10_host.proofs.Ending.{asked_for, no_report, no_day, unopened}
 use Rattle.s10_host.proofs.report.run_report.Goals as goal
 
 pub returns-in_default : goal.returns-in_default
 returns-in_default g c =
-    no_day _ g.S.Start g.D.Days.gives c.args.kind c.args.day c.args.days.now c.new.new.days
-    (g.W.Write.contents c.args.out.now)
-    (g.W.Write.contents c.fail_by_clock.new.out) c.fail_by_clock.result c.fail_by_clock.result
-    _
-    (no_report g.D.Days.gives c.args.day c.args.days.now c.new.new.days c.args.kind
-    c.new.result c.in_default.is c.new.ensures.issues
-    c.new.ensures.dated) c.fail_by_clock.ensures refl refl
+    no_day _ (image_at g.S.Start) g.D.Days.gives c.args.kind c.args.day c.args.days.now
+    c.new.new.days (g.W.Write.contents c.args.out.now) (g.W.Write.contents c.fail_by_clock.new.out)
+    c.fail_by_clock.result c.fail_by_clock.result _
+    (no_report g.D.Days.gives c.args.day c.args.days.now c.new.new.days c.args.kind c.new.result
+    c.in_default.is c.new.ensures.issues c.new.ensures.dated) c.fail_by_clock.ensures refl refl
 
 pub returns-in-Err : goal.returns-in-Err
 returns-in-Err g c =
-    let asked = asked_for g.D.Days.gives c.args.day c.args.days.now c.new.new.days
-    c.args.kind c.new.result c.in-Some.report c.in-Some.is
-    c.new.ensures.issues c.new.ensures.dated in
+    let asked = asked_for g.D.Days.gives c.args.day c.args.days.now c.new.new.days c.args.kind
+    c.new.result c.in-Some.report c.in-Some.is c.new.ensures.issues c.new.ensures.dated in
     let ended = c.not_connected.result in
-    not_reported _ g.S.Start g.D.Days.gives c.args.kind c.args.day c.args.days.now
-    c.new.new.days c.new.new.days c.in-Some.report c.in-Err.fault
-    (g.W.Write.contents c.args.out.now) (g.W.Write.contents c.not_connected.new.out) ended.done
-    (files_in ended.resources) asked (inr (inr c.in-Err.ensures.err.0))
-    c.not_connected.ensures.done (ap files_in c.not_connected.ensures.nothing)
+    inr (
+      c.in-Some.report,
+      asked,
+      inl (unopened _ (image_at g.S.Start) c.in-Err.fault _ _ ended.done (files_in ended.resources)
+          (inr (inr c.in-Err.ensures.err.0)) c.not_connected.ensures.done
+          (ap files_in c.not_connected.ensures.nothing)),
+    )
 
 pub returns-in-Ok-connect_to_ledger : goal.returns-in-Ok-connect_to_ledger
 returns-in-Ok-connect_to_ledger g c =
-    let asked = asked_for g.D.Days.gives c.args.day c.args.days.now c.new.new.days
-    c.args.kind c.new.result c.in-Some.report c.in-Some.is
-    c.new.ensures.issues c.new.ensures.dated in
-    let ended = c.run_on_file.result in
-    reported_in _ g.S.Start g.D.Days.gives c.args.kind c.args.day c.args.days.now
-    c.new.new.days c.run_on_file.new.days c.in-Some.report c.in-Ok-connect_to_ledger.connection
-    (g.W.Write.contents c.args.out.now) (g.W.Write.contents c.run_on_file.new.out) ended.done
-    (files_in ended.resources) (link_in ended.resources) asked
-    c.in-Ok-connect_to_ledger.ensures.found (c.run_on_file.ensures.worked (λ is. absurd cc))
+    let asked = asked_for g.D.Days.gives c.args.day c.args.days.now c.new.new.days c.args.kind
+    c.new.result c.in-Some.report c.in-Some.is c.new.ensures.issues c.new.ensures.dated in
+    inr (
+      c.in-Some.report,
+      asked,
+      c.report_on_disk.ensures (image_at g.S.Start) c.in-Ok-connect_to_ledger.ensures.found,
+    )
 
 pub returns : goal.returns
 returns g c =
-    let asked = asked_for g.D.Days.gives c.args.day c.args.days.now c.new.new.days
-    c.args.kind c.new.result c.in-Some.report c.in-Some.is
-    c.new.ensures.issues c.new.ensures.dated in
+    let asked = asked_for g.D.Days.gives c.args.day c.args.days.now c.new.new.days c.args.kind
+    c.new.result c.in-Some.report c.in-Some.is c.new.ensures.issues c.new.ensures.dated in
     let failed = c.not_connected-in-Err-connect_to_ledger in
     let ended = failed.result in
-    not_reported _ g.S.Start g.D.Days.gives c.args.kind c.args.day c.args.days.now
-    c.new.new.days c.new.new.days c.in-Some.report c.in-Err-connect_to_ledger.fault
-    (g.W.Write.contents c.args.out.now) (g.W.Write.contents failed.new.out) ended.done
-    (files_in ended.resources) asked c.in-Err-connect_to_ledger.ensures.refused
-    failed.ensures.done (ap files_in failed.ensures.nothing)
+    inr (
+      c.in-Some.report,
+      asked,
+      inl (unopened _ (image_at g.S.Start) c.in-Err-connect_to_ledger.fault _ _ ended.done
+          (files_in ended.resources) c.in-Err-connect_to_ledger.ensures.refused failed.ensures.done
+          (ap files_in failed.ensures.nothing)),
+    )
