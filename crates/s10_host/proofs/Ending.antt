@@ -1,7 +1,7 @@
 -- How a job ends, and what it prints.
 use denote.RattleType.{RattleType}
 use Rattle.std.proofs.Common.{◌≡◌, ◌≢◌, ◌⊎◌, ◌∙◌, inl, inr, ℕ, Bool, List, [], ◌∷◌, Option, Some, None}
-use Rattle.std.proofs.Common.{Result, Ok, Err, refl, sym, subst, true, ◌++◌}
+use Rattle.std.proofs.Common.{Result, Ok, Err, ap, refl, sym, subst, true, ◌++◌}
 use Rattle.std.proofs.KnownBytes.{Appends-trans}
 use Rattle.std.specs.Prelude.{IfOk, IfErr, IfSome, IsOk, OnErr, codes, option_map}
 use Rattle.std.specs.Io.KnownBytes.{Appends}
@@ -46,6 +46,7 @@ use Rattle.s10_host.specs.Jobs.{IsUnlinked, Writes, IsReported, IsReportOf, HasS
 use Rattle.s10_host.specs.Jobs.{HasReported}
 use Rattle.s10_host.specs.Jobs.{HasAudited}
 use Rattle.s10_host.specs.Ended.{HasEnded}
+use Rattle.s10_host.specs.JobResources.{no_resources}
 use Rattle.s10_host.specs.declared.job_resources.JobResources.{JobResources}
 use Rattle.s10_host.specs.UntilFile.{EndsIfNamed}
 use Rattle.s10_host.specs.LedgerJobs.{IsMadeWith, IsOpenedFrom, IsLeftByRefusal, IsRefusedLeft}
@@ -57,6 +58,20 @@ use Rattle.s10_statements.specs.Creating.{IsCreateRefusal}
 use Rattle.s10_ledger.specs.Refusals.{IsOpeningRefusal}
 use Rattle.s10_host.proofs.Opening.{empty_book, found_book, closed_into, still_none, calls_all}
 use Rattle.s10_host.proofs.Opening.{kept_refused, shown}
+
+-- A job without resources has no files, no link, no snapshot and no copy.
+pub no_files : {F : Type 0} (used : JobResources F) → used ≡ no_resources → used.files ≡ None
+no_files {F} used is = ap (λ (r : JobResources F). r.files) is
+
+pub no_link : {F : Type 0} (used : JobResources F) → used ≡ no_resources → used.link ≡ None
+no_link {F} used is = ap (λ (r : JobResources F). r.link) is
+
+pub no_snapshot : {F : Type 0} (used : JobResources F) → used ≡ no_resources
+    → used.snapshot ≡ None
+no_snapshot {F} used is = ap (λ (r : JobResources F). r.snapshot) is
+
+pub no_copy : {F : Type 0} (used : JobResources F) → used ≡ no_resources → used.copied ≡ None
+no_copy {F} used is = ap (λ (r : JobResources F). r.copied) is
 
 -- A job that failed by a fault, which was printed.
 pub fails_by : (IsFault : OpenFault → Type 0) (fault : OpenFault) (old new : Option (List ℕ))

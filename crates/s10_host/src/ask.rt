@@ -1,7 +1,6 @@
 //! Asks a question over a socket of its own.
 
 ghost use Rattle.std.specs.Prelude.{◌≡◌, None};
-ghost use Rattle.s10_host.specs.JobResources.{link_in, notes_in};
 ghost use Rattle.s10_host.specs.Asking.{HasAsked, HasAskedByNumber};
 
 use crate::job_end::JobEnd;
@@ -20,7 +19,7 @@ pub(crate) fn run_question<'a, F, W: Write>(
     out: &mut W,
 ) -> JobEnd<'a, F>
     ensures { HasAsked question.now.asker question.now (W.contents out.old) (W.contents out.new)
-        result.done (link_in result.resources) (notes_in result.resources) }
+        result.done result.resources.link result.resources.notes }
 {
     match question.asker {
         Asker::Numbered { customer, number } => run_by_number(rt, question, customer, number, out),
@@ -37,15 +36,15 @@ fn run_by_number<'a, F, W: Write>(
     out: &mut W,
 ) -> JobEnd<'a, F>
     ensures asked { HasAskedByNumber customer number question.now (W.contents out.old)
-        (W.contents out.new) result.done (link_in result.resources) }
-    ensures without_notes { notes_in result.resources ≡ None }
+        (W.contents out.new) result.done result.resources.link }
+    ensures without_notes { result.resources.notes ≡ None }
 {
     let (to, body) = match question.read() {
         Ok(read) => read,
         Err(refusal) => {
             return JobEnd {
                 done: write_refusal(refusal, out),
-                resources: JobResources::Nothing,
+                resources: JobResources::none(),
             };
         }
     };
@@ -54,7 +53,7 @@ fn run_by_number<'a, F, W: Write>(
         Err(fault) => {
             return JobEnd {
                 done: fail_by_link(fault, out),
-                resources: JobResources::Nothing,
+                resources: JobResources::none(),
             };
         }
     };
@@ -67,6 +66,9 @@ fn run_by_number<'a, F, W: Write>(
     eprint_failure(rt, to, &link);
     JobEnd {
         done: asked,
-        resources: JobResources::Link(link),
+        resources: JobResources {
+            link: Some(link),
+            ..JobResources::none()
+        },
     }
 }

@@ -4,7 +4,6 @@ ghost use Rattle.std.specs.Prelude.{◌≡◌, false};
 ghost use Rattle.sqlite_wal.specs.Files.{image_at};
 ghost use Rattle.sqlite_wal.specs.Recovery.{Image};
 ghost use Rattle.s10_host.specs.Files.{system_files, IsFoundIn};
-ghost use Rattle.s10_host.specs.JobResources.{files_in};
 ghost use Rattle.s10_host.specs.Jobs.{HasAudited};
 
 use crate::audit::run_audit;
@@ -32,7 +31,7 @@ pub(crate) fn run_audit_on_file<'a, S: Start, W: Write>(
     out: &mut W,
 ) -> JobEnd<'a, ClosedFiles<S>>
     ensures { HasAudited (system_files S.row S.Start) (image_at S.Start) (W.contents out.old)
-        (W.contents out.new) result.done (files_in result.resources) }
+        (W.contents out.new) result.done result.resources.files }
 {
     let seed = match drawn_seed(rt, seed) {
         Ok(seed) => seed,
@@ -56,7 +55,7 @@ fn audit_on_disk<'a, F: Disk + Drop, W: Write>(
 ) -> JobEnd<'a, Files<F>>
     requires idle { connection.in_transaction ≡ false }
     ensures { (held : Image) → IsFoundIn held connection → HasAudited F.Disk held
-        (W.contents out.old) (W.contents out.new) result.done (files_in result.resources) }
+        (W.contents out.old) (W.contents out.new) result.done result.resources.files }
 {
     let mut progress = Progress::new(rt, file.path);
     let (done, left) = run_audit(rt.alloc(), seed, connection, &mut progress, out);
@@ -64,7 +63,10 @@ fn audit_on_disk<'a, F: Disk + Drop, W: Write>(
     put_audited_back(rt, file, &done);
     JobEnd {
         done,
-        resources: JobResources::Files(store.close()),
+        resources: JobResources {
+            files: Some(store.close()),
+            ..JobResources::none()
+        },
     }
 }
 

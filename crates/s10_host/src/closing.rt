@@ -5,12 +5,12 @@ ghost use Rattle.std.specs.Io.KnownBytes.{Appends};
 ghost use Rattle.sqlite.specs.Files.{file_state, over_files};
 ghost use Rattle.s10_statements.specs.ConnectionState.{IsOpen};
 ghost use Rattle.s10_host.specs.Files.{AreFilesOf, Keeps};
-ghost use Rattle.s10_host.specs.JobResources.{files_in, link_in};
+ghost use Rattle.s10_host.specs.JobResources.{no_resources};
 ghost use Rattle.s10_host.specs.Jobs.{ledger_line, EndsAs, HasClosed};
 
 use crate::files::{checkpoint_and_close, close_refused};
 use crate::job_end::JobEnd;
-use crate::job_resources::{JobResources, resources_of};
+use crate::job_resources::JobResources;
 use crate::ledger_file::LedgerFile;
 use s10_book::BookFault;
 use s10_jobs::{JobStatus, fail_by_ledger};
@@ -32,8 +32,8 @@ pub(crate) fn end_closed<'a, F: Disk + Drop, W: Write>(
     out: &mut W,
 ) -> JobEnd<'a, Files<F>>
     ensures closed { HasClosed ledger.connection ledger.committed done (W.contents out.old)
-        (W.contents out.new) result.done (files_in result.resources) }
-    ensures link { link_in result.resources ≡ link }
+        (W.contents out.new) result.done result.resources.files }
+    ensures link { result.resources.link ≡ link }
 {
     let ClosedBook {
         connection,
@@ -43,7 +43,11 @@ pub(crate) fn end_closed<'a, F: Disk + Drop, W: Write>(
     let (done, files) = ended(done, committed, closed, out);
     JobEnd {
         done,
-        resources: resources_of(files, link),
+        resources: JobResources {
+            files,
+            link,
+            ..JobResources::none()
+        },
     }
 }
 
@@ -58,11 +62,11 @@ pub(crate) fn end_refused<'a, F: Disk + Drop, W: Write>(
     requires idle { refused.connection.in_transaction ≡ false }
     ensures printed { IfOk result.done (λ status. (status ≡ JobStatus.Failed)
         × Appends (W.contents out.old) (W.contents out.new) (ledger_line refused.refusal.fault)) }
-    ensures of { IfSome (files_in result.resources) (AreFilesOf refused.connection) }
-    ensures kept { IfSome (files_in result.resources) (Keeps refused.connection) }
+    ensures of { IfSome result.resources.files (AreFilesOf refused.connection) }
+    ensures kept { IfSome result.resources.files (Keeps refused.connection) }
     ensures committed { IsOpen over_files refused.connection
         → (file_state refused.connection).committed ≡ (file_state refused.connection).now }
-    ensures unlinked { link_in result.resources ≡ None }
+    ensures unlinked { result.resources.link ≡ None }
 {
     let Refused {
         refusal,
@@ -74,7 +78,10 @@ pub(crate) fn end_refused<'a, F: Disk + Drop, W: Write>(
     }
     JobEnd {
         done: fail_by_ledger(refusal.fault, out),
-        resources: resources_of(files, None),
+        resources: JobResources {
+            files,
+            ..JobResources::none()
+        },
     }
 }
 
@@ -82,11 +89,11 @@ pub(crate) fn end_refused<'a, F: Disk + Drop, W: Write>(
 pub(crate) fn not_connected<'a, F, W: Write>(fault: OpenFault, out: &mut W) -> JobEnd<'a, F>
     ensures done { IfOk result.done (λ status. (status ≡ JobStatus.Failed)
         × Appends (W.contents out.old) (W.contents out.new) (ledger_line fault)) }
-    ensures nothing { result.resources ≡ JobResources.Nothing }
+    ensures nothing { result.resources ≡ no_resources }
 {
     JobEnd {
         done: fail_by_ledger(fault, out),
-        resources: JobResources::Nothing,
+        resources: JobResources::none(),
     }
 }
 

@@ -5,7 +5,6 @@ ghost use Rattle.std.specs.Io.KnownBytes.{Appends};
 ghost use Rattle.s10_host.specs.Audited.{audit_status};
 ghost use Rattle.s10_host.specs.Copying.{HasCopied, EndsAudit, EndsCopy, EndsSnapshot};
 ghost use Rattle.s10_host.specs.Copying.{copied_line, copy_fault_line, copy_fault_status};
-ghost use Rattle.s10_host.specs.JobResources.{copy_in};
 
 use crate::audit::audit_ledger;
 use crate::closing::not_connected;
@@ -33,7 +32,7 @@ pub(crate) fn run_copy<'a, F, W: Write>(
     out: &mut W,
 ) -> JobEnd<'a, F>
     ensures { HasCopied ledger.now to.now (W.contents out.old) (W.contents out.new) result.done
-        (copy_in result.resources) }
+        result.resources.copied }
 {
     let seed = match drawn_seed(rt, seed) {
         Ok(seed) => seed,
@@ -47,22 +46,28 @@ pub(crate) fn run_copy<'a, F, W: Write>(
             let (done, left) = copy_to(rt, to, seed, bytes, &mut target, &mut again, out);
             JobEnd {
                 done,
-                resources: JobResources::Copy(CopyResources {
-                    source,
-                    target,
-                    again,
-                    left,
-                }),
+                resources: JobResources {
+                    copied: Some(CopyResources {
+                        source,
+                        target,
+                        again,
+                        left,
+                    }),
+                    ..JobResources::none()
+                },
             }
         }
         Err(fault) => JobEnd {
             done: fail_by_snapshot(fault, out),
-            resources: JobResources::Copy(CopyResources {
-                source,
-                target,
-                again,
-                left: None,
-            }),
+            resources: JobResources {
+                copied: Some(CopyResources {
+                    source,
+                    target,
+                    again,
+                    left: None,
+                }),
+                ..JobResources::none()
+            },
         },
     }
 }

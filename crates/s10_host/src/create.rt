@@ -9,7 +9,6 @@ ghost use Rattle.s10_ledger.specs.Ledger.{Ledger};
 ghost use Rattle.s10_statements.specs.Creating.{IsCreateRefusal};
 ghost use Rattle.s10_host.specs.Closing.{IsClosedAs};
 ghost use Rattle.s10_host.specs.Files.{system_files, IsFoundIn};
-ghost use Rattle.s10_host.specs.JobResources.{files_in};
 ghost use Rattle.s10_host.specs.Jobs.{HasCreated};
 ghost use Rattle.s10_host.specs.LedgerJobs.{IsLeftByRefusal, IsMadeWith};
 
@@ -39,7 +38,7 @@ pub(crate) fn run_create<'a, S: Start, W: Write>(
     out: &mut W,
 ) -> JobEnd<'a, ClosedFiles<S>>
     ensures { HasCreated (system_files S.row S.Start) (image_at S.Start) settings
-        (W.contents out.old) (W.contents out.new) result.done (files_in result.resources) }
+        (W.contents out.old) (W.contents out.new) result.done result.resources.files }
 {
     let seed = match drawn_seed(rt, seed) {
         Ok(seed) => seed,
@@ -61,7 +60,7 @@ fn create_in<'a, S: Start, W: Write>(
     out: &mut W,
 ) -> JobEnd<'a, ClosedFiles<S>>
     ensures { HasCreated (system_files S.row S.Start) (image_at S.Start) settings
-        (W.contents out.old) (W.contents out.new) result.done (files_in result.resources) }
+        (W.contents out.old) (W.contents out.new) result.done result.resources.files }
 {
     match connect_to_new(rt, file, start) {
         Ok(connection) => create_on_disk(rt, file, seed, connection, settings, out),
@@ -80,7 +79,7 @@ fn create_on_disk<'a, F: Disk + Drop, W: Write>(
 ) -> JobEnd<'a, Files<F>>
     requires idle { connection.in_transaction ≡ false }
     ensures { (held : Image) → IsFoundIn held connection → HasCreated F.Disk held settings
-        (W.contents out.old) (W.contents out.new) result.done (files_in result.resources) }
+        (W.contents out.old) (W.contents out.new) result.done result.resources.files }
 {
     let mut progress = Progress::new(rt, file.path);
     match create_over(rt.alloc(), seed, connection, settings, &mut progress) {

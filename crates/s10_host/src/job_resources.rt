@@ -1,7 +1,7 @@
 //! What a job returns besides its result.
 
 ghost use Rattle.std.specs.Prelude.{◌≡◌};
-ghost use Rattle.s10_host.specs.JobResources.{files_in, link_in};
+ghost use Rattle.s10_host.specs.JobResources.{no_resources};
 
 use crate::copy_resources::CopyResources;
 use crate::loop_resources::LoopResources;
@@ -11,44 +11,33 @@ use s10_notes::{HostFolder, NotesFile};
 
 /// The resources of a job. `F` represents the files of a ledger, closed.
 #[derive(Drop)]
-pub enum JobResources<'a, F> {
-    /// None.
-    Nothing,
+pub struct JobResources<'a, F> {
     /// The files of the ledger.
-    Files(F),
+    pub files: Option<F>,
     /// The link that the ledger was served over, or that a request was sent over.
-    Link(UdpLink),
-    /// The files of the ledger, and the link that it was served over.
-    Served {
-        /// The files.
-        files: F,
-        /// The link.
-        link: UdpLink,
-    },
+    pub link: Option<UdpLink>,
     /// The notes that were created, or that a request was asked by.
-    Notes {
-        /// The file of the notes.
-        notes: NotesFile<HostFolder<'a>>,
-        /// The link that the request was sent over.
-        link: Option<UdpLink>,
-    },
+    pub notes: Option<NotesFile<HostFolder<'a>>>,
     /// The resources of a loop.
-    Loop(LoopResources),
+    pub looped: Option<LoopResources>,
     /// The resources of a look at a snapshot.
-    Snapshot(SnapshotResources<'a>),
+    pub snapshot: Option<SnapshotResources<'a>>,
     /// The resources of a copy.
-    Copy(CopyResources<'a>),
+    pub copied: Option<CopyResources<'a>>,
 }
 
-/// Returns the files and the link of a job, each if there is one.
-pub(crate) fn resources_of<'a, F>(files: Option<F>, link: Option<UdpLink>) -> JobResources<'a, F>
-    ensures files { files_in result ≡ files }
-    ensures link { link_in result ≡ link }
-{
-    match (files, link) {
-        (Some(files), Some(link)) => JobResources::Served { files, link },
-        (Some(files), None) => JobResources::Files(files),
-        (None, Some(link)) => JobResources::Link(link),
-        (None, None) => JobResources::Nothing,
+impl<'a, F> JobResources<'a, F> {
+    /// Returns no resources.
+    pub(crate) fn none() -> JobResources<'a, F>
+        ensures { result ≡ no_resources }
+    {
+        JobResources {
+            files: None,
+            link: None,
+            notes: None,
+            looped: None,
+            snapshot: None,
+            copied: None,
+        }
     }
 }

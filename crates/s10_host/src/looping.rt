@@ -9,7 +9,6 @@ ghost use Rattle.s10_link.specs.Link.{LeadsTo};
 ghost use Rattle.s10_link.specs.Link.{new_trace};
 ghost use Rattle.s10_jobs.specs.Shown.{Prints};
 ghost use Rattle.s10_jobs.specs.LoopCalls.{loop_calls, AreMadeInTurn};
-ghost use Rattle.s10_host.specs.JobResources.{looped_in};
 ghost use Rattle.s10_host.specs.Jobs.{IsRunOn};
 ghost use Rattle.s10_host.specs.LoopRun.{IsLoopRun, IsLoopFailure, localhost};
 
@@ -43,27 +42,21 @@ pub(crate) fn run_loop_on<'a, F, D: Days, W: Write>(
     out: &mut W,
 ) -> JobEnd<'a, F>
     ensures { IsRunOn D.gives day days.old days.new (W.contents out.old) (W.contents out.new)
-        result.done (looped_in result.resources) }
+        result.done result.resources.looped }
 {
     let Some(day) = next_day(days, day) else {
         return JobEnd {
             done: fail_by_clock(out),
-            resources: JobResources::Nothing,
+            resources: JobResources::none(),
         };
     };
     let (done, looped) = run_loop(rt, day, out);
     JobEnd {
         done,
-        resources: resources_of_loop(looped),
-    }
-}
-
-fn resources_of_loop<'a, F>(looped: Option<LoopResources>) -> JobResources<'a, F>
-    ensures { looped_in result ≡ looped }
-{
-    match looped {
-        Some(looped) => JobResources::Loop(looped),
-        None => JobResources::Nothing,
+        resources: JobResources {
+            looped,
+            ..JobResources::none()
+        },
     }
 }
 

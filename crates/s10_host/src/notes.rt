@@ -1,7 +1,6 @@
 //! Creates the notes of a client, asks a request by them, and asks their open request again.
 
 ghost use Rattle.std.specs.Prelude.{◌≡◌, None, IfOk};
-ghost use Rattle.s10_host.specs.JobResources.{link_in, notes_in};
 ghost use Rattle.s10_host.specs.NotesJobs.{HasMadeNotes, HasAskedAgain, HasAskedByNotes};
 ghost use Rattle.s10_host.specs.NotesJobs.{IsNewAt, IsOpenedAt};
 
@@ -25,23 +24,26 @@ pub(crate) fn run_notes<'a, F, W: Write>(
     out: &mut W,
 ) -> JobEnd<'a, F>
     ensures made { HasMadeNotes file.now customer first last (W.contents out.old) (W.contents out.new)
-        result.done (notes_in result.resources) }
-    ensures unlinked { link_in result.resources ≡ None }
+        result.done result.resources.notes }
+    ensures unlinked { result.resources.link ≡ None }
 {
     let Some(notes) = Notes::new(customer, first, last) else {
         return JobEnd {
             done: refuse(b"numbers", out),
-            resources: JobResources::Nothing,
+            resources: JobResources::none(),
         };
     };
     match new_notes(rt, file, &notes) {
         Ok(notes) => JobEnd {
             done: write_made(Ok(()), out),
-            resources: JobResources::Notes { notes, link: None },
+            resources: JobResources {
+                notes: Some(notes),
+                ..JobResources::none()
+            },
         },
         Err(fault) => JobEnd {
             done: write_made(Err(fault), out),
-            resources: JobResources::Nothing,
+            resources: JobResources::none(),
         },
     }
 }
@@ -83,12 +85,12 @@ pub(crate) fn run_again<'a, F, W: Write>(
     out: &mut W,
 ) -> JobEnd<'a, F>
     ensures { HasAskedAgain to.now path.now tries (W.contents out.old) (W.contents out.new) result.done
-        (link_in result.resources) (notes_in result.resources) }
+        result.resources.link result.resources.notes }
 {
     let Some(to) = Peer::read(to.as_bytes()) else {
         return JobEnd {
             done: write_refusal(Refusal::Peer, out),
-            resources: JobResources::Nothing,
+            resources: JobResources::none(),
         };
     };
     let mut notes = match open_notes(rt, path) {
@@ -96,7 +98,7 @@ pub(crate) fn run_again<'a, F, W: Write>(
         Err(fault) => {
             return JobEnd {
                 done: fail_by_notes(fault, out),
-                resources: JobResources::Nothing,
+                resources: JobResources::none(),
             };
         }
     };
@@ -105,7 +107,10 @@ pub(crate) fn run_again<'a, F, W: Write>(
         Err(fault) => {
             return JobEnd {
                 done: fail_by_link(fault, out),
-                resources: JobResources::Notes { notes, link: None },
+                resources: JobResources {
+                    notes: Some(notes),
+                    ..JobResources::none()
+                },
             };
         }
     };
@@ -113,9 +118,10 @@ pub(crate) fn run_again<'a, F, W: Write>(
     eprint_failure(rt, to, &link);
     JobEnd {
         done,
-        resources: JobResources::Notes {
-            notes,
+        resources: JobResources {
+            notes: Some(notes),
             link: Some(link),
+            ..JobResources::none()
         },
     }
 }
@@ -129,14 +135,14 @@ pub(crate) fn run_by_notes<'a, F, W: Write>(
     out: &mut W,
 ) -> JobEnd<'a, F>
     ensures { HasAskedByNotes file.now question.now (W.contents out.old) (W.contents out.new)
-        result.done (link_in result.resources) (notes_in result.resources) }
+        result.done result.resources.link result.resources.notes }
 {
     let (to, body) = match question.read() {
         Ok(read) => read,
         Err(refusal) => {
             return JobEnd {
                 done: write_refusal(refusal, out),
-                resources: JobResources::Nothing,
+                resources: JobResources::none(),
             };
         }
     };
@@ -145,7 +151,7 @@ pub(crate) fn run_by_notes<'a, F, W: Write>(
         Err(fault) => {
             return JobEnd {
                 done: fail_by_notes(fault, out),
-                resources: JobResources::Nothing,
+                resources: JobResources::none(),
             };
         }
     };
@@ -154,7 +160,10 @@ pub(crate) fn run_by_notes<'a, F, W: Write>(
         Err(fault) => {
             return JobEnd {
                 done: fail_by_link(fault, out),
-                resources: JobResources::Notes { notes, link: None },
+                resources: JobResources {
+                    notes: Some(notes),
+                    ..JobResources::none()
+                },
             };
         }
     };
@@ -162,9 +171,10 @@ pub(crate) fn run_by_notes<'a, F, W: Write>(
     eprint_failure(rt, to, &link);
     JobEnd {
         done,
-        resources: JobResources::Notes {
-            notes,
+        resources: JobResources {
+            notes: Some(notes),
             link: Some(link),
+            ..JobResources::none()
         },
     }
 }

@@ -4,7 +4,6 @@ ghost use Rattle.std.specs.Prelude.{◌≡◌, ◌⊎◌, false};
 ghost use Rattle.sqlite_wal.specs.Files.{image_at};
 ghost use Rattle.sqlite_wal.specs.Recovery.{Image};
 ghost use Rattle.s10_host.specs.Files.{system_files, IsFoundIn};
-ghost use Rattle.s10_host.specs.JobResources.{files_in};
 ghost use Rattle.s10_host.specs.Jobs.{HasReported, IsReportOf, IsUnopened};
 
 use crate::closing::{end_closed, end_refused, not_connected};
@@ -35,12 +34,12 @@ pub(crate) fn run_report<'a, S: Start, D: Days, W: Write>(
 ) -> JobEnd<'a, ClosedFiles<S>>
     ensures { HasReported (system_files S.row S.Start) (image_at S.Start) D.gives kind day
         days.old days.new (W.contents out.old) (W.contents out.new) result.done
-        (files_in result.resources) }
+        result.resources.files }
 {
     let Some(report) = Report::new(days, kind, day) else {
         return JobEnd {
             done: fail_by_clock(out),
-            resources: JobResources::Nothing,
+            resources: JobResources::none(),
         };
     };
     let seed = match drawn_seed(rt, seed) {
@@ -66,9 +65,9 @@ fn report_on_disk<'a, F: Disk + Drop, W: Write>(
     requires idle { connection.in_transaction ≡ false }
     ensures { (held : Image) → IsFoundIn held connection
         → IsUnopened F.Disk held (W.contents out.old) (W.contents out.new) result.done
-        (files_in result.resources)
+        result.resources.files
         ⊎ IsReportOf F.Disk held report (W.contents out.old) (W.contents out.new) result.done
-        (files_in result.resources) }
+        result.resources.files }
 {
     let mut progress = Progress::new(rt, file.path);
     match report_over(rt.alloc(), seed, connection, report, &mut progress, out) {

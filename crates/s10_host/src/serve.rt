@@ -8,7 +8,6 @@ ghost use Rattle.s10_link.specs.UdpLink.{IsBoundAt};
 ghost use Rattle.s10_jobs.specs.Unbound.{IsUnbound};
 ghost use Rattle.s10_host.specs.Closing.{ServesOver, Turns};
 ghost use Rattle.s10_host.specs.Files.{system_files, IsFoundIn};
-ghost use Rattle.s10_host.specs.JobResources.{files_in, link_in};
 ghost use Rattle.s10_host.specs.Jobs.{HasServed};
 ghost use Rattle.s10_host.specs.LedgerJobs.{IsLeftByRefusal, IsRefusedLeft, IsUsed};
 
@@ -44,19 +43,19 @@ pub(crate) fn run_serve<'a, S: Start, D: Days, W: Write>(
     out: &mut W,
 ) -> JobEnd<'a, ClosedFiles<S>>
     ensures { HasServed (system_files S.row S.Start) (image_at S.Start) D.gives bind.now options days.old days.new
-        (is_some until.entry) (W.contents out.old) (W.contents out.new) result.done (files_in result.resources)
-        (link_in result.resources) }
+        (is_some until.entry) (W.contents out.old) (W.contents out.new) result.done result.resources.files
+        result.resources.link }
 {
     let Some(at) = Peer::read(bind.as_bytes()) else {
         return JobEnd {
             done: refuse(b"peer", out),
-            resources: JobResources::Nothing,
+            resources: JobResources::none(),
         };
     };
     if is_there(rt, until) {
         return JobEnd {
             done: refuse(b"until", out),
-            resources: JobResources::Nothing,
+            resources: JobResources::none(),
         };
     }
     let seed = match drawn_seed(rt, seed) {
@@ -89,7 +88,7 @@ fn serve_on_disk<'a, F: Disk + Drop, D: Days, W: Write>(
     requires idle { connection.in_transaction ≡ false }
     ensures { (held : Image) → IsFoundIn held connection → (bind : List ℕ) → SpellsPeer bind at
         → HasServed F.Disk held D.gives bind options days.old days.new ends.old (W.contents out.old)
-        (W.contents out.new) result.done (files_in result.resources) (link_in result.resources) }
+        (W.contents out.new) result.done result.resources.files result.resources.link }
 {
     let mut progress = Progress::new(rt, file.path);
     match serve_over(

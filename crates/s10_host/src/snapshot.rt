@@ -4,7 +4,6 @@
 ghost use Rattle.std.specs.Prelude.{◌≡◌, false, IfOk, IfErr, IfSome, None};
 ghost use Rattle.std.specs.Io.KnownBytes.{Appends};
 ghost use Rattle.s10_host.specs.Files.{IsFileFault};
-ghost use Rattle.s10_host.specs.JobResources.{snapshot_in};
 ghost use Rattle.s10_host.specs.Jobs.{ledger_line, FailsByLedger};
 ghost use Rattle.s10_host.specs.Snapshots.{HasLooked, LooksAt, IsFoundInBytes, snapshot_line};
 
@@ -42,12 +41,12 @@ pub(crate) fn run_snapshot<'a, F, D: Days, W: Write>(
     out: &mut W,
 ) -> JobEnd<'a, F>
     ensures { HasLooked D.gives ledger.now look days.old days.new (W.contents out.old)
-        (W.contents out.new) result.done (snapshot_in result.resources) }
+        (W.contents out.new) result.done result.resources.snapshot }
 {
     let Some(job) = job_of(look, days) else {
         return JobEnd {
             done: fail_by_clock(out),
-            resources: JobResources::Nothing,
+            resources: JobResources::none(),
         };
     };
     let seed = match drawn_seed(rt, seed) {
@@ -60,12 +59,18 @@ pub(crate) fn run_snapshot<'a, F, D: Days, W: Write>(
             let (done, left) = look_at(rt, ledger, seed, bytes, job, out);
             JobEnd {
                 done,
-                resources: JobResources::Snapshot(SnapshotResources { source, left }),
+                resources: JobResources {
+                    snapshot: Some(SnapshotResources { source, left }),
+                    ..JobResources::none()
+                },
             }
         }
         Err(fault) => JobEnd {
             done: fail_by_snapshot(fault, out),
-            resources: JobResources::Snapshot(SnapshotResources { source, left: None }),
+            resources: JobResources {
+                snapshot: Some(SnapshotResources { source, left: None }),
+                ..JobResources::none()
+            },
         },
     }
 }

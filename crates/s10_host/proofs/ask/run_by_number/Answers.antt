@@ -4,21 +4,21 @@ use Rattle.s10_host.proofs.Answering.{refused_unasked, unbound_unasked, asked_ov
 use Rattle.s10_host.proofs.ask.run_by_number.Goals as goal
 
 pub returns-in-Err-clause-asked : goal.returns-in-Err-clause-asked
-returns-in-Err-clause-asked g c = record {
+returns-in-Err-clause-asked g c = rw c.none.ensures (record {
   asked = tt;
   unasked = λ _. refused_unasked c.args.question.now c.in-Err.refusal
       (g.W.Write.contents c.args.out.now) (g.W.Write.contents c.write_refusal.new.out)
       c.write_refusal.result c.in-Err.ensures.refused c.write_refusal.ensures;
-}
+})
 
 pub returns-in-Err-bind_client-clause-asked : goal.returns-in-Err-bind_client-clause-asked
-returns-in-Err-bind_client-clause-asked g c = record {
+returns-in-Err-bind_client-clause-asked g c = rw c.none-in-Err-bind_client.ensures (record {
   asked = tt;
   unasked = λ _. unbound_unasked c.args.question.now c.in-Ok.read.0 c.in-Ok.read.1
       c.in-Err-bind_client.fault (g.W.Write.contents c.args.out.now)
       (g.W.Write.contents c.fail_by_link.new.out) c.fail_by_link.result c.in-Ok.ensures.ok.0
       c.in-Ok.ensures.ok.1 c.in-Err-bind_client.ensures.refused c.fail_by_link.ensures;
-}
+})
 
 pub returns-clause-asked : goal.returns-clause-asked
 returns-clause-asked g c = record {

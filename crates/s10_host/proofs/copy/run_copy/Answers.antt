@@ -1,8 +1,7 @@
-use Rattle.std.proofs.Common.{◌≡◌, ap, refl, subst, sym, Ok, Err}
+use Rattle.std.proofs.Common.{◌≡◌, refl, subst, sym, Ok, Err}
 use Rattle.s10_snapshot.specs.Readings.{IsTaken}
 use Rattle.s10_host.specs.Copying.{HasCopied}
-use Rattle.s10_host.specs.JobResources.{copy_in}
-use Rattle.s10_host.proofs.Ending.{fails_by}
+use Rattle.s10_host.proofs.Ending.{fails_by, no_copy}
 use Rattle.s10_rows.specs.declared.open_fault.OpenFault.TheVariants.{Store}
 use Rattle.s10_host.proofs.copy.run_copy.Goals as goal
 
@@ -10,7 +9,7 @@ pub returns-in-Err : goal.returns-in-Err
 returns-in-Err g c =
     subst (HasCopied c.args.ledger.now c.args.to.now (g.W.Write.contents c.args.out.now)
     (g.W.Write.contents c.not_connected.new.out) c.not_connected.result.done)
-    (sym (ap copy_in c.not_connected.ensures.nothing))
+    (sym (no_copy _ c.not_connected.ensures.nothing))
     (fails_by (λ fault. fault ≡ Store) c.in-Err.fault _ _ c.not_connected.result.done
     c.in-Err.ensures.err.0 c.not_connected.ensures.done)
 

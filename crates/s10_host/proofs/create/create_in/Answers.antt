@@ -1,8 +1,7 @@
-use Rattle.std.proofs.Common.{ap, refl}
+use Rattle.std.proofs.Common.{refl}
 use Rattle.sqlite_wal.specs.Files.{image_at}
 use Rattle.s10_host.specs.Files.{system_files}
-use Rattle.s10_host.specs.JobResources.{files_in}
-use Rattle.s10_host.proofs.Ending.{not_connected}
+use Rattle.s10_host.proofs.Ending.{not_connected, no_files}
 use Rattle.s10_host.proofs.create.create_in.Goals as goal
 
 pub returns-in-Ok : goal.returns-in-Ok
@@ -13,4 +12,4 @@ returns-in-Err g c =
     not_connected _ (image_at g.S.Start) c.args.settings c.in-Err.fault
     (g.W.Write.contents c.args.out.now) (g.W.Write.contents c.not_connected.new.out)
     c.not_connected.result.done c.not_connected.result.done _ c.in-Err.ensures.refused
-    c.not_connected.ensures.done refl (ap files_in c.not_connected.ensures.nothing)
+    c.not_connected.ensures.done refl (no_files _ c.not_connected.ensures.nothing)

@@ -9,13 +9,13 @@ use Rattle.s10_host.proofs.NotesEnding.{no_socket}
 use Rattle.s10_host.proofs.notes.run_again.Goals as goal
 
 pub returns-in-Err-bind_client : goal.returns-in-Err-bind_client
-returns-in-Err-bind_client g c = record {
+returns-in-Err-bind_client g c = rw c.none-in-Err-bind_client.ensures (record {
   asked = tt;
   unasked = λ _. no_socket (IsAgainRefusal c.args.to.now) (IsPeerText c.args.to.now) c.args.path.now
       c.in-Err-bind_client.fault _ _ _ c.fail_by_link.result c.in-Ok.ensures
       (c.in-Some.to, rw c.as_bytes.ensures.value at c.in-Some.ensures.spelled)
       c.in-Err-bind_client.ensures.refused c.fail_by_link.ensures;
-}
+})
 
 pub returns : goal.returns
 returns g c =

@@ -13,37 +13,37 @@ use Rattle.s10_host.proofs.notes.run_by_notes.Goals as goal
 pub returns-in-Err : goal.returns-in-Err
 returns-in-Err g c =
     let asked = c.args.question.now in
-    record {
+    rw c.none.ensures (record {
       asked = tt;
       unasked = λ _. no_text (IsQuestionRefusal asked.to.now asked.body)
           (IsPeerText asked.to.now × (body : Body) × WordsAsk asked.body body) c.args.file.now
           c.in-Err.refusal _ _ _ c.write_refusal.result refl c.in-Err.ensures.refused
           c.write_refusal.ensures;
-    }
+    })
 
 pub returns-in-Err-open_notes : goal.returns-in-Err-open_notes
 returns-in-Err-open_notes g c =
     let asked = c.args.question.now in
-    record {
+    rw c.none-in-Err-open_notes.ensures (record {
       asked = tt;
       unasked = λ _. no_notes (IsQuestionRefusal asked.to.now asked.body)
           (IsPeerText asked.to.now × (body : Body) × WordsAsk asked.body body) c.args.file.now
           c.in-Err-open_notes.fault _ _ _ c.fail_by_notes.result refl
           ((c.in-Ok.read.0, c.in-Ok.ensures.ok.0), c.in-Ok.read.1, c.in-Ok.ensures.ok.1)
           c.fail_by_notes.ensures;
-    }
+    })
 
 pub returns-in-Err-bind_client : goal.returns-in-Err-bind_client
 returns-in-Err-bind_client g c =
     let asked = c.args.question.now in
-    record {
+    rw c.none-in-Err-bind_client.ensures (record {
       asked = tt;
       unasked = λ _. no_socket (IsQuestionRefusal asked.to.now asked.body)
           (IsPeerText asked.to.now × (body : Body) × WordsAsk asked.body body) c.args.file.now
           c.in-Err-bind_client.fault _ _ _ c.fail_by_link.result c.in-Ok-open_notes.ensures
           ((c.in-Ok.read.0, c.in-Ok.ensures.ok.0), c.in-Ok.read.1, c.in-Ok.ensures.ok.1)
           c.in-Err-bind_client.ensures.refused c.fail_by_link.ensures;
-    }
+    })
 
 pub returns : goal.returns
 returns g c =

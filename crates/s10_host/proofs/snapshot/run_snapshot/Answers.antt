@@ -1,23 +1,24 @@
 use Rattle.std.proofs.Common.{◌≡◌, ap, inl, inr, refl, subst, sym, Ok, Err}
 use Rattle.s10_snapshot.specs.Readings.{IsTaken}
-use Rattle.s10_host.specs.JobResources.{snapshot_in}
 use Rattle.s10_host.specs.Snapshots.{HasLooked}
 use Rattle.s10_rows.specs.declared.open_fault.OpenFault.TheVariants.{Store}
-use Rattle.s10_host.proofs.Ending.{fails_by}
+use Rattle.s10_host.proofs.Ending.{fails_by, no_snapshot}
 use Rattle.s10_host.proofs.Looking.{ends_look}
 use Rattle.s10_host.proofs.snapshot.run_snapshot.Goals as goal
 
 pub returns-in_default : goal.returns-in_default
-returns-in_default g c = record {
-  looked = tt;
-  unread = λ _. inl (c.job_of.ensures.undated c.in_default.is, c.fail_by_clock.ensures);
-}
+returns-in_default g c =
+    rw c.none.ensures
+    (record {
+      looked = tt;
+      unread = λ _. inl (c.job_of.ensures.undated c.in_default.is, c.fail_by_clock.ensures);
+    })
 
 pub returns-in-Err : goal.returns-in-Err
 returns-in-Err g c =
     subst (HasLooked g.D.Days.gives c.args.ledger.now c.args.look c.args.days.now c.job_of.new.days
     (g.W.Write.contents c.args.out.now) (g.W.Write.contents c.not_connected.new.out)
-    c.not_connected.result.done) (sym (ap snapshot_in c.not_connected.ensures.nothing)) (record {
+    c.not_connected.result.done) (sym (no_snapshot _ c.not_connected.ensures.nothing)) (record {
       looked = tt;
       unread = λ _. inr (
         c.in-Some.job,
