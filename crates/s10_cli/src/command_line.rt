@@ -78,7 +78,7 @@ error: the text of --id is no identifier, such as RA473124829US
 For more information, try '--help'.";
 
 const NO_NUMBER: &str = "\
-error: a request needs either --notes, or --number and, but for grant and withdraw, --customer
+error: give --notes, or --number (and --customer, except for grant and withdraw)
 
 For more information, try '--help'.";
 

@@ -36,11 +36,11 @@ identifier, with status 1: `no-range` if the customer has no open range of that 
 asked for something else under this number. With --count the reply has that many identifiers, one
 after another, and `none-free` says that fewer serial numbers are free: none is issued then.
 `refused peer`, `refused service` or `refused country`, also with status 1, say that nothing was
-asked. With status 3, `gave-up` says that no reply came, and `link FAULT` that the socket failed;
-the same words again ask again, and draw once at most.
+asked. With status 3, `gave-up` says that no reply came, and `link FAULT` that the socket failed.
+Repeat the command then; it draws at most once.
 
-With --notes FILE, in the place of --customer and --number, the request gets the next number of the
-notes (`s10 help notes`), and is written into them before it is sent. `refused unanswered`, with
+With --notes FILE instead of --customer and --number, the request gets the next number of the notes
+(`s10 help notes`), and is written into them before it is sent. `refused unanswered`, with
 status 1, then says that the request before has no reply yet: `s10 again` asks it again.
 `refused numbers-spent` says that the notes have no number left. `notes FAULT`, with status 3, is as
 `s10 help again` says.

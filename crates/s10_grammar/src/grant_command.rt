@@ -46,9 +46,9 @@ with status 1: `bad-grant` if the holder is 0 or the first number is above the l
 range of that service and country has one of the numbers, `number-reused` if the post has asked for
 something else under this number. `refused peer`, `refused service` or `refused country`, also with
 status 1, say that nothing was asked. With status 3, `gave-up` says that no reply came, and
-`link FAULT` that the socket failed; the same words again ask again, and grant once at most.
+`link FAULT` that the socket failed. Repeat the command then; it grants at most once.
 
---notes FILE, in the place of the number and of the customer, is as `s10 help draw` says.
+--notes FILE replaces --number; see `s10 help draw`.
 
 Example:
   s10 grant --to 127.0.0.1:4711 --number 1 --holder 7 --service RA --country GB --first 0 --last 2

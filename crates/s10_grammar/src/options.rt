@@ -106,7 +106,7 @@ pub fn notes_option<'a>(alloc: Global) -> Arg<'a>
         alloc,
         "notes",
         "FILE",
-        "The notes of a client, in the place of its customer and number: the request gets their next number",
+        "The notes of a client, which give the request its customer and its number",
     )
 }
 

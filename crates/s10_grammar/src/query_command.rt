@@ -36,7 +36,7 @@ status 1, `not-yours` says that the identifier is in none of the customer's rang
 nothing was asked. With status 3, `gave-up` says that no reply came, and `link FAULT` that the
 socket failed. A query is kept with its reply: to ask again, take a new number.
 
---notes FILE, in the place of the number and of the customer, is as `s10 help draw` says.
+--notes FILE replaces --customer and --number; see `s10 help draw`.
 
 Example:
   s10 query --to 127.0.0.1:4711 --customer 7 --number 4 --id RA000000005GB

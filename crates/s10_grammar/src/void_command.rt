@@ -33,9 +33,9 @@ Prints the reply: the request and `done`, with exit status 0, or why it was not 
 issued, `already-void` if it is void, `number-reused` if the customer has asked for something else
 under this number. `refused peer`, or `refused` with `length`, `letter AT`, `digit AT` or
 `check-digit`, also with status 1, say that nothing was asked. With status 3, `gave-up` says that no
-reply came, and `link FAULT` that the socket failed; the same words again ask again.
+reply came, and `link FAULT` that the socket failed. Repeat the command then.
 
---notes FILE, in the place of the number and of the customer, is as `s10 help draw` says.
+--notes FILE replaces --customer and --number; see `s10 help draw`.
 
 Example:
   s10 void --to 127.0.0.1:4711 --customer 7 --number 3 --id RA000000005GB

@@ -42,9 +42,9 @@ Prints the reply: the request and `done`, with exit status 0, or why nothing was
 1: `no-such-range` if no range has the number, `closed` if it is closed already, `number-reused` if
 the post has asked for something else under this number. `refused peer`, also with status 1, says
 that nothing was asked. With status 3, `gave-up` says that no reply came, and `link FAULT` that the
-socket failed; the same words again ask again, and close once at most.
+socket failed. Repeat the command then; it closes at most once.
 
---notes FILE, in the place of the number and of the customer, is as `s10 help draw` says.
+--notes FILE replaces --number; see `s10 help draw`.
 
 Example:
   s10 withdraw --to 127.0.0.1:4711 --number 2 --range 1

@@ -126,8 +126,9 @@ pub(crate) fn run_again<'a, F, W: Write>(
     }
 }
 
-/// Asks a question with the next number of the notes in a file, over a socket of its own. A text that cannot be
-/// read is refused before the notes are opened, and these are opened before a socket is bound.
+/// Asks a question with the next number of the notes in a file, over a socket of its own. A text that
+/// cannot be read is refused before the notes are opened, and these are opened before a socket is
+/// bound.
 pub(crate) fn run_by_notes<'a, F, W: Write>(
     rt: &'a HostRuntime,
     question: &Question<'a>,

@@ -40,8 +40,8 @@ pub fn ask_by_notes<N: Notebook, L: Link, W: Write>(
     ensures asked { AsksByNotes N.held N.may_find (take_fault (N.held notebook.old)) body notebook.old
         notebook.new (L.trace_of link.old) (L.trace_of link.new) to tries (W.contents out.old)
         (W.contents out.new) result }
-    // If nothing was sent, what an opening may find goes with the requests sent before. Otherwise
-    // it goes with these and the new one.
+    // If nothing was sent, an opening finds only states consistent with the requests sent before.
+    // Otherwise it finds only states consistent with these and the new one.
     ensures lived { (first : NotesState) (sent : List Request)
         → Life first (N.held notebook.old) sent → IsLived N.may_find first sent notebook.old
         → (IsLived N.may_find first sent notebook.new
