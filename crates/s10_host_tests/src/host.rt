@@ -13,3 +13,4 @@ mod questions;
 mod refused_files;
 mod serving;
 mod snapshots;
+mod wanted_job;

@@ -4,72 +4,133 @@ use crate::host::command_lines::{prints, status_of};
 use crate::host::job_words::Subcommand::{
     Again, Audit, Create, Draw, Grant, Loop, Notes, Query, Report, Serve, Void, Withdraw,
 };
+use crate::host::wanted_job::{
+    WantedBody, WantedCall, WantedFilter, WantedGrant, WantedJob, WantedReport, WantedServer,
+};
 use s10_cli::{LineEnd, run_line};
-use s10_jobs::Job;
-use s10_test_help::expect::holds;
+use s10_jobs::{Job, ReportKind, TurnOptions};
+use s10_reports::{RangeFilter, ReportFormat};
+use s10_test_help::expect::{holds, same};
+use s10_test_help::samples::id;
 use s10_test_help::words::Words;
 use std::alloc::Global;
-use std::fmt::Debug;
 use std::process::Abort;
 
-/// A command line, and the `Debug` text of the job that it asks for.
-type Line = (&'static str, &'static str);
+/// A command line, and the job that it asks for.
+type Line = (&'static str, WantedJob);
 
-/// The kind of a report of all ranges.
-const ALL_RANGES: &str =
-    "Ranges { filter: RangeFilter { customer: None, range: None, id: None }, format: Lines }";
+const TURNS: TurnOptions = TurnOptions {
+    count: 4294967295,
+    day: None,
+    most_days_ahead: None,
+    senders: false,
+};
 
-/// The kind of a report of all issues.
-const ALL_ISSUES: &str =
-    "Issues(IssuesReport { filter: IssueFilter { customer: None, range: None, id: None, from_day: None, to_day: None }, format: Lines })";
+const SERVE: WantedServer = WantedServer {
+    ledger: "a.db",
+    bind: "0.0.0.0:0",
+    options: TURNS,
+    until: None,
+};
+
+const RANGE: WantedGrant = WantedGrant {
+    holder: 7,
+    service: "RA",
+    country: "GB",
+    first: 0,
+    last: 2,
+};
+
+const GRANT: WantedCall = WantedCall {
+    to: "127.0.0.1:4711",
+    customer: 0,
+    number: 1,
+    body: WantedBody::Grant(RANGE),
+    tries: 5,
+};
+
+const DRAW: WantedCall = WantedCall {
+    customer: 7,
+    body: WantedBody::Draw("RA", "GB"),
+    ..GRANT
+};
+
+const VOID: WantedCall = WantedCall {
+    number: 3,
+    body: WantedBody::Void("RA000000005GB"),
+    ..DRAW
+};
+
+const QUERY: WantedCall = WantedCall {
+    number: 4,
+    body: WantedBody::Query("RA000000005GB"),
+    ..DRAW
+};
+
+const WITHDRAW: WantedCall = WantedCall {
+    number: 5,
+    body: WantedBody::Withdraw(1),
+    ..GRANT
+};
+
+/// A filter that admits all.
+const ALL: WantedFilter = WantedFilter {
+    customer: None,
+    range: None,
+    from_day: None,
+    to_day: None,
+};
+
+/// The report of all ranges.
+const RANGES: WantedReport = WantedReport::Ranges(ALL, ReportFormat::Lines);
+
+/// The report of all issues.
+const ISSUES: WantedReport = WantedReport::Issues(ALL, ReportFormat::Lines);
 
 /// Each subcommand of the program, with its required options only.
 const LINES: &[Line] = &[
     (
         "s10 create --ledger a.db --interval 30 --limit 100",
-        r#"Some(Create { ledger: "a.db", settings: Settings { interval: 30, limit: 100 } })"#,
+        WantedJob::Create("a.db", 30, 100),
     ),
     (
         "s10 serve --ledger a.db --bind 0.0.0.0:0",
-        r#"Some(Serve { ledger: "a.db", bind: "0.0.0.0:0", options: TurnOptions { count: 4294967295, day: None, most_days_ahead: None, senders: false }, until: None })"#,
+        WantedJob::Serve(SERVE),
     ),
     (
         "s10 grant --to 127.0.0.1:4711 --number 1 --holder 7 --service RA --country GB --first 0 --last 2",
-        r#"Some(Ask(Question { to: "127.0.0.1:4711", customer: 0, number: 1, body: Grant { holder: 7, service: "RA", country: "GB", first: Serial { value: 0 }, last: Serial { value: 2 } }, tries: Tries { count: 5 } }))"#,
+        WantedJob::Ask(GRANT),
     ),
     (
         "s10 draw --to 127.0.0.1:4711 --customer 7 --number 1 --service RA --country GB",
-        r#"Some(Ask(Question { to: "127.0.0.1:4711", customer: 7, number: 1, body: Draw { service: "RA", country: "GB" }, tries: Tries { count: 5 } }))"#,
+        WantedJob::Ask(DRAW),
     ),
     (
         "s10 void --to 127.0.0.1:4711 --customer 7 --number 3 --id RA000000005GB",
-        r#"Some(Ask(Question { to: "127.0.0.1:4711", customer: 7, number: 3, body: Void { id: "RA000000005GB" }, tries: Tries { count: 5 } }))"#,
+        WantedJob::Ask(VOID),
     ),
     (
         "s10 query --to 127.0.0.1:4711 --customer 7 --number 4 --id RA000000005GB",
-        r#"Some(Ask(Question { to: "127.0.0.1:4711", customer: 7, number: 4, body: Query { id: "RA000000005GB" }, tries: Tries { count: 5 } }))"#,
+        WantedJob::Ask(QUERY),
     ),
     (
         "s10 withdraw --to 127.0.0.1:4711 --number 5 --range 1",
-        r#"Some(Ask(Question { to: "127.0.0.1:4711", customer: 0, number: 5, body: Withdraw { range: 1 }, tries: Tries { count: 5 } }))"#,
+        WantedJob::Ask(WITHDRAW),
     ),
     (
         "s10 notes --file a.notes --customer 7 --first 1 --last 999999",
-        r#"Some(Notes { file: "a.notes", customer: 7, first: 1, last: 999999 })"#,
+        WantedJob::Notes("a.notes", 7, 1, 999999),
     ),
     (
         "s10 again --to 127.0.0.1:4711 --notes a.notes",
-        r#"Some(Again { to: "127.0.0.1:4711", notes: "a.notes", tries: Tries { count: 5 } })"#,
+        WantedJob::Again("127.0.0.1:4711", "a.notes", 5),
     ),
     (
         "s10 report --ledger a.db",
-        r#"Some(Report { ledger: "a.db", kind: Ranges { filter: RangeFilter { customer: None, range: None, id: None }, format: Lines }, day: None })"#,
+        WantedJob::Report("a.db", RANGES, None),
     ),
-    (
-        "s10 audit --ledger a.db",
-        r#"Some(Audit { ledger: "a.db" })"#,
-    ),
-    ("s10 loop", "Some(Loop { day: None })"),
+    ("s10 audit --ledger a.db", WantedJob::Audit("a.db")),
+    ("s10 loop", WantedJob::Loop(None)),
 ];
 
 /// Returns `LINES`.
@@ -99,14 +160,6 @@ fn line_of(subcommand: Subcommand) -> Option<&'static Line> {
     lines().get(subcommand as usize)
 }
 
-/// Returns whether this is the `Debug` text of a value.
-fn is_shown_as<T: Debug>(alloc: Global, value: &T, text: &str) -> bool {
-    match format!(in alloc; "{value:?}") {
-        Ok(shown) => shown.as_str() == text,
-        Err(_) => false,
-    }
-}
-
 /// Returns the job that the words ask for, or `None` if they ask for none.
 pub(crate) fn job_of<'a, R: Eprint + AllocGlobal>(rt: &R, words: &'a [&str]) -> Option<Job<'a>> {
     let mut input: &[u8] = b"";
@@ -117,16 +170,11 @@ pub(crate) fn job_of<'a, R: Eprint + AllocGlobal>(rt: &R, words: &'a [&str]) -> 
     }
 }
 
-/// Returns whether the words ask for this job.
-fn asks<R: Eprint + AllocGlobal>(rt: &R, words: &[&str], job: &str) -> bool {
-    is_shown_as(rt.alloc(), &job_of(rt, words), job)
-}
-
 /// Asserts that each line asks for its job.
-fn ask_as_shown<R: Eprint + AllocGlobal + Abort>(rt: &R, lines: &[Line]) {
-    for (line, job) in lines {
+fn ask_as_wanted<R: Eprint + AllocGlobal + Abort>(rt: &R, lines: &[Line]) {
+    for (line, wanted) in lines {
         let words = Words::of(line);
-        assert!(rt; holds(rt, line, asks(rt, words.as_slice(), job)));
+        assert!(rt; same(rt, line, &job_of(rt, words.as_slice()), &wanted.job()));
     }
 }
 
@@ -143,109 +191,191 @@ fn jobs_over_files_or_sockets_are_left_to_the_program(rt: HostRuntime) {
         let words = Words::of(line);
         assert!(rt; holds(&rt, line, is_silent(&rt, words.as_slice(), None)));
     }
-    ask_as_shown(&rt, lines());
+    ask_as_wanted(&rt, lines());
 }
 
 const OPTIONS: &[Line] = &[
     (
         "s10 draw --count 16 --to 127.0.0.1:4711 --customer 7 --number 1 --service RA --country GB",
-        r#"Some(Ask(Question { to: "127.0.0.1:4711", customer: 7, number: 1, body: DrawMany { service: "RA", country: "GB", count: Count { value: 16 } }, tries: Tries { count: 5 } }))"#,
+        WantedJob::Ask(WantedCall {
+            body: WantedBody::DrawMany("RA", "GB", 16),
+            ..DRAW
+        }),
     ),
     (
         "s10 serve --day 4294967295 --count=4294967295 --bind '' --ledger ''",
-        r#"Some(Serve { ledger: "", bind: "", options: TurnOptions { count: 4294967295, day: Some(4294967295), most_days_ahead: None, senders: false }, until: None })"#,
+        WantedJob::Serve(WantedServer {
+            ledger: "",
+            bind: "",
+            options: TurnOptions {
+                day: Some(4294967295),
+                ..TURNS
+            },
+            ..SERVE
+        }),
     ),
     (
         "s10 draw --notes a.notes --to 127.0.0.1:4711 --service RA --country GB --tries 2",
-        r#"Some(AskByNotes(NotedQuestion { to: "127.0.0.1:4711", notes: "a.notes", body: Draw { service: "RA", country: "GB" }, tries: Tries { count: 2 } }))"#,
+        WantedJob::AskByNotes("a.notes", WantedCall { tries: 2, ..DRAW }),
     ),
     (
         "s10 grant --notes post.notes --to 127.0.0.1:4711 --holder 7 --service RA --country GB --first 0 --last 2",
-        r#"Some(AskByNotes(NotedQuestion { to: "127.0.0.1:4711", notes: "post.notes", body: Grant { holder: 7, service: "RA", country: "GB", first: Serial { value: 0 }, last: Serial { value: 2 } }, tries: Tries { count: 5 } }))"#,
+        WantedJob::AskByNotes("post.notes", GRANT),
     ),
     (
         "s10 serve --most-days-ahead 30 --bind 0.0.0.0:0 --ledger a.db",
-        r#"Some(Serve { ledger: "a.db", bind: "0.0.0.0:0", options: TurnOptions { count: 4294967295, day: None, most_days_ahead: Some(30), senders: false }, until: None })"#,
+        WantedJob::Serve(WantedServer {
+            options: TurnOptions {
+                most_days_ahead: Some(30),
+                ..TURNS
+            },
+            ..SERVE
+        }),
     ),
     (
         "s10 serve --until end --count 3 --bind 0.0.0.0:0 --ledger a.db",
-        r#"Some(Serve { ledger: "a.db", bind: "0.0.0.0:0", options: TurnOptions { count: 3, day: None, most_days_ahead: None, senders: false }, until: Some("end") })"#,
+        WantedJob::Serve(WantedServer {
+            options: TurnOptions { count: 3, ..TURNS },
+            until: Some("end"),
+            ..SERVE
+        }),
     ),
     (
         "s10 report --day 0 --issues --ledger 'a b.db'",
-        r#"Some(Report { ledger: "a b.db", kind: Issues(IssuesReport { filter: IssueFilter { customer: None, range: None, id: None, from_day: None, to_day: None }, format: Lines }), day: Some(0) })"#,
+        WantedJob::Report("a b.db", ISSUES, Some(0)),
     ),
     (
         "s10 report --issues --ledger a.db --customer 7 --range 1 --from-day 2 --to-day 3",
-        r#"Some(Report { ledger: "a.db", kind: Issues(IssuesReport { filter: IssueFilter { customer: Some(7), range: Some(1), id: None, from_day: Some(2), to_day: Some(3) }, format: Lines }), day: None })"#,
+        WantedJob::Report(
+            "a.db",
+            WantedReport::Issues(
+                WantedFilter {
+                    customer: Some(7),
+                    range: Some(1),
+                    from_day: Some(2),
+                    to_day: Some(3),
+                },
+                ReportFormat::Lines,
+            ),
+            None,
+        ),
     ),
     (
         "s10 report --csv --ledger a.db --to-day 3",
-        r#"Some(Report { ledger: "a.db", kind: Issues(IssuesReport { filter: IssueFilter { customer: None, range: None, id: None, from_day: None, to_day: Some(3) }, format: Csv }), day: None })"#,
-    ),
-    (
-        "s10 report --ledger a.db --id 'ra 0000 0000 5 gb'",
-        r#"Some(Report { ledger: "a.db", kind: Ranges { filter: RangeFilter { customer: None, range: None, id: Some(Id { service: Service { letters: LetterPair { first: 82, second: 65 } }, serial: Serial { value: 0 }, country: Country { letters: LetterPair { first: 71, second: 66 } } }) }, format: Lines }, day: None })"#,
+        WantedJob::Report(
+            "a.db",
+            WantedReport::Issues(
+                WantedFilter {
+                    to_day: Some(3),
+                    ..ALL
+                },
+                ReportFormat::Csv,
+            ),
+            None,
+        ),
     ),
     (
         "s10 info --ledger a.db",
-        r#"Some(Report { ledger: "a.db", kind: Info, day: None })"#,
+        WantedJob::Report("a.db", WantedReport::Info, None),
     ),
     (
         "s10 info --day 20030 --ledger a.db",
-        r#"Some(Report { ledger: "a.db", kind: Info, day: Some(20030) })"#,
+        WantedJob::Report("a.db", WantedReport::Info, Some(20030)),
     ),
     (
         "s10 report --snapshot --ledger a.db",
-        r#"Some(Snapshot { ledger: "a.db", look: Report { kind: Ranges { filter: RangeFilter { customer: None, range: None, id: None }, format: Lines }, day: None } })"#,
+        WantedJob::SnapshotReport("a.db", RANGES, None),
     ),
     (
         "s10 report --day 0 --issues --ledger a.db --snapshot",
-        r#"Some(Snapshot { ledger: "a.db", look: Report { kind: Issues(IssuesReport { filter: IssueFilter { customer: None, range: None, id: None, from_day: None, to_day: None }, format: Lines }), day: Some(0) } })"#,
+        WantedJob::SnapshotReport("a.db", ISSUES, Some(0)),
     ),
     (
         "s10 info --ledger a.db --snapshot --day 20030",
-        r#"Some(Snapshot { ledger: "a.db", look: Report { kind: Info, day: Some(20030) } })"#,
+        WantedJob::SnapshotReport("a.db", WantedReport::Info, Some(20030)),
     ),
     (
         "s10 audit --snapshot --ledger a.db",
-        r#"Some(Snapshot { ledger: "a.db", look: Audit })"#,
+        WantedJob::SnapshotAudit("a.db"),
     ),
     (
         "s10 copy --to b.db --ledger a.db",
-        r#"Some(Copy { ledger: "a.db", to: "b.db" })"#,
+        WantedJob::Copy("a.db", "b.db"),
     ),
-    ("s10 loop --day 20000", "Some(Loop { day: Some(20000) })"),
-    ("s10 check RA473124829US", "None"),
+    ("s10 loop --day 20000", WantedJob::Loop(Some(20000))),
+    ("s10 check RA473124829US", WantedJob::Nothing),
 ];
 
 #[test]
 fn options_that_may_be_left_out_are_read(rt: HostRuntime) {
-    ask_as_shown(&rt, OPTIONS);
+    ask_as_wanted(&rt, OPTIONS);
+}
+
+#[test]
+fn an_identifier_is_read_as_on_a_label(rt: HostRuntime) {
+    let line = "s10 report --ledger a.db --id 'ra 0000 0000 5 gb'";
+    let filter = RangeFilter {
+        customer: None,
+        range: None,
+        id: Some(id(0)),
+    };
+    let wanted = Job::Report {
+        ledger: "a.db",
+        kind: ReportKind::Ranges {
+            filter,
+            format: ReportFormat::Lines,
+        },
+        day: None,
+    };
+    let words = Words::of(line);
+    assert!(rt; same(&rt, &line, &job_of(&rt, words.as_slice()), &Some(wanted)));
 }
 
 const LIMITS: &[Line] = &[
     (
         "s10 create --ledger a.db --interval 3650 --limit 1000000000",
-        r#"Some(Create { ledger: "a.db", settings: Settings { interval: 3650, limit: 1000000000 } })"#,
+        WantedJob::Create("a.db", 3650, 1000000000),
     ),
     (
         "s10 grant --tries 100 --last 99999999 --first 99999998 --country gb --service '' --holder 4294967295 --number 4294967295 --to post",
-        r#"Some(Ask(Question { to: "post", customer: 0, number: 4294967295, body: Grant { holder: 4294967295, service: "", country: "gb", first: Serial { value: 99999998 }, last: Serial { value: 99999999 } }, tries: Tries { count: 100 } }))"#,
+        WantedJob::Ask(WantedCall {
+            to: "post",
+            customer: 0,
+            number: 4294967295,
+            body: WantedBody::Grant(WantedGrant {
+                holder: 4294967295,
+                service: "",
+                country: "gb",
+                first: 99999998,
+                last: 99999999,
+            }),
+            tries: 100,
+        }),
     ),
     (
         "s10 withdraw --tries 1 --range 0 --number 0 --to ''",
-        r#"Some(Ask(Question { to: "", customer: 0, number: 0, body: Withdraw { range: 0 }, tries: Tries { count: 1 } }))"#,
+        WantedJob::Ask(WantedCall {
+            to: "",
+            customer: 0,
+            number: 0,
+            body: WantedBody::Withdraw(0),
+            tries: 1,
+        }),
     ),
     (
         "s10 withdraw --range=4294967295 --number=4294967295 --to=post",
-        r#"Some(Ask(Question { to: "post", customer: 0, number: 4294967295, body: Withdraw { range: 4294967295 }, tries: Tries { count: 5 } }))"#,
+        WantedJob::Ask(WantedCall {
+            to: "post",
+            number: 4294967295,
+            body: WantedBody::Withdraw(4294967295),
+            ..WITHDRAW
+        }),
     ),
 ];
 
 #[test]
 fn numbers_are_read_up_to_their_limits(rt: HostRuntime) {
-    ask_as_shown(&rt, LIMITS);
+    ask_as_wanted(&rt, LIMITS);
 }
 
 /// Returns the words without an option and its value, or `None` if memory is refused.
@@ -308,41 +438,18 @@ fn with_value<'a>(
     Some(changed)
 }
 
-/// Returns whether the words ask for the job of this text with one field changed.
-fn ask_but_for<R: Eprint + AllocGlobal>(
-    rt: &R,
-    words: &[&str],
-    job: &str,
-    field: &str,
-    changed: &str,
-) -> bool {
-    let Some((before, after)) = job.split_once(field) else {
-        return false;
-    };
-    match [before, changed, after].concat(rt.alloc()) {
-        Ok(job) => asks(rt, words, &job),
-        Err(_) => false,
-    }
-}
+/// A subcommand, an option and its new value, and the job of the line with this value.
+type Reach = (Subcommand, &'static str, &'static str, WantedJob);
 
-/// A subcommand, an option and its new value, a field of the job, and the changed field.
-type Reach = (
-    Subcommand,
-    &'static str,
-    &'static str,
-    &'static str,
-    &'static str,
-);
-
-/// Returns whether the line with the new value asks for its job with the field changed.
+/// Returns whether the line with the new value asks for its job.
 fn reaches<R: Eprint + AllocGlobal>(rt: &R, reach: &Reach) -> bool {
-    let (subcommand, option, value, field, changed) = reach;
-    let Some((line, job)) = line_of(*subcommand) else {
+    let (subcommand, option, value, wanted) = reach;
+    let Some((line, _)) = line_of(*subcommand) else {
         return false;
     };
     let words = Words::of(line);
     match with_value(rt.alloc(), words.as_slice(), option, value) {
-        Some(words) => ask_but_for(rt, &words, job, field, changed),
+        Some(words) => same(rt, reach, &job_of(rt, &words), &wanted.job()),
         None => false,
     }
 }
@@ -350,7 +457,7 @@ fn reaches<R: Eprint + AllocGlobal>(rt: &R, reach: &Reach) -> bool {
 /// Asserts that each value reaches its own field.
 fn reach_their_fields<R: Eprint + AllocGlobal + Abort>(rt: &R, values: &[Reach]) {
     for reach in values {
-        assert!(rt; holds(rt, reach, reaches(rt, reach)));
+        assert!(rt; reaches(rt, reach));
     }
 }
 
@@ -359,152 +466,272 @@ const VALUES: &[Reach] = &[
         Create,
         "--ledger",
         "b.db",
-        r#"ledger: "a.db""#,
-        r#"ledger: "b.db""#,
+        WantedJob::Create("b.db", 30, 100),
     ),
-    (Create, "--interval", "31", "interval: 30", "interval: 31"),
-    (Create, "--limit", "99", "limit: 100", "limit: 99"),
+    (
+        Create,
+        "--interval",
+        "31",
+        WantedJob::Create("a.db", 31, 100),
+    ),
+    (Create, "--limit", "99", WantedJob::Create("a.db", 30, 99)),
     (
         Serve,
         "--ledger",
         "b.db",
-        r#"ledger: "a.db""#,
-        r#"ledger: "b.db""#,
+        WantedJob::Serve(WantedServer {
+            ledger: "b.db",
+            ..SERVE
+        }),
     ),
     (
         Serve,
         "--bind",
         "[::1]:9",
-        r#"bind: "0.0.0.0:0""#,
-        r#"bind: "[::1]:9""#,
+        WantedJob::Serve(WantedServer {
+            bind: "[::1]:9",
+            ..SERVE
+        }),
     ),
     (
         Grant,
         "--to",
         "[::1]:9",
-        r#"to: "127.0.0.1:4711""#,
-        r#"to: "[::1]:9""#,
+        WantedJob::Ask(WantedCall {
+            to: "[::1]:9",
+            ..GRANT
+        }),
     ),
-    (Grant, "--number", "8", "number: 1", "number: 8"),
-    (Grant, "--holder", "8", "holder: 7", "holder: 8"),
+    (
+        Grant,
+        "--number",
+        "8",
+        WantedJob::Ask(WantedCall { number: 8, ..GRANT }),
+    ),
+    (
+        Grant,
+        "--holder",
+        "8",
+        WantedJob::Ask(WantedCall {
+            body: WantedBody::Grant(WantedGrant { holder: 8, ..RANGE }),
+            ..GRANT
+        }),
+    ),
     (
         Grant,
         "--service",
         "LA",
-        r#"service: "RA""#,
-        r#"service: "LA""#,
+        WantedJob::Ask(WantedCall {
+            body: WantedBody::Grant(WantedGrant {
+                service: "LA",
+                ..RANGE
+            }),
+            ..GRANT
+        }),
     ),
     (
         Grant,
         "--country",
         "FR",
-        r#"country: "GB""#,
-        r#"country: "FR""#,
+        WantedJob::Ask(WantedCall {
+            body: WantedBody::Grant(WantedGrant {
+                country: "FR",
+                ..RANGE
+            }),
+            ..GRANT
+        }),
     ),
     (
         Grant,
         "--first",
         "1",
-        "first: Serial { value: 0 }",
-        "first: Serial { value: 1 }",
+        WantedJob::Ask(WantedCall {
+            body: WantedBody::Grant(WantedGrant { first: 1, ..RANGE }),
+            ..GRANT
+        }),
     ),
     (
         Grant,
         "--last",
         "8",
-        "last: Serial { value: 2 }",
-        "last: Serial { value: 8 }",
+        WantedJob::Ask(WantedCall {
+            body: WantedBody::Grant(WantedGrant { last: 8, ..RANGE }),
+            ..GRANT
+        }),
     ),
     (
         Draw,
         "--to",
         "[::1]:9",
-        r#"to: "127.0.0.1:4711""#,
-        r#"to: "[::1]:9""#,
+        WantedJob::Ask(WantedCall {
+            to: "[::1]:9",
+            ..DRAW
+        }),
     ),
-    (Draw, "--customer", "8", "customer: 7", "customer: 8"),
-    (Draw, "--number", "8", "number: 1", "number: 8"),
+    (
+        Draw,
+        "--customer",
+        "8",
+        WantedJob::Ask(WantedCall {
+            customer: 8,
+            ..DRAW
+        }),
+    ),
+    (
+        Draw,
+        "--number",
+        "8",
+        WantedJob::Ask(WantedCall { number: 8, ..DRAW }),
+    ),
     (
         Draw,
         "--service",
         "LA",
-        r#"service: "RA""#,
-        r#"service: "LA""#,
+        WantedJob::Ask(WantedCall {
+            body: WantedBody::Draw("LA", "GB"),
+            ..DRAW
+        }),
     ),
     (
         Draw,
         "--country",
         "FR",
-        r#"country: "GB""#,
-        r#"country: "FR""#,
+        WantedJob::Ask(WantedCall {
+            body: WantedBody::Draw("RA", "FR"),
+            ..DRAW
+        }),
     ),
     (
         Void,
         "--to",
         "[::1]:9",
-        r#"to: "127.0.0.1:4711""#,
-        r#"to: "[::1]:9""#,
+        WantedJob::Ask(WantedCall {
+            to: "[::1]:9",
+            ..VOID
+        }),
     ),
-    (Void, "--customer", "8", "customer: 7", "customer: 8"),
-    (Void, "--number", "8", "number: 3", "number: 8"),
-    (Void, "--id", "x", r#"id: "RA000000005GB""#, r#"id: "x""#),
+    (
+        Void,
+        "--customer",
+        "8",
+        WantedJob::Ask(WantedCall {
+            customer: 8,
+            ..VOID
+        }),
+    ),
+    (
+        Void,
+        "--number",
+        "8",
+        WantedJob::Ask(WantedCall { number: 8, ..VOID }),
+    ),
+    (
+        Void,
+        "--id",
+        "x",
+        WantedJob::Ask(WantedCall {
+            body: WantedBody::Void("x"),
+            ..VOID
+        }),
+    ),
     (
         Query,
         "--to",
         "[::1]:9",
-        r#"to: "127.0.0.1:4711""#,
-        r#"to: "[::1]:9""#,
+        WantedJob::Ask(WantedCall {
+            to: "[::1]:9",
+            ..QUERY
+        }),
     ),
-    (Query, "--customer", "8", "customer: 7", "customer: 8"),
-    (Query, "--number", "8", "number: 4", "number: 8"),
-    (Query, "--id", "x", r#"id: "RA000000005GB""#, r#"id: "x""#),
+    (
+        Query,
+        "--customer",
+        "8",
+        WantedJob::Ask(WantedCall {
+            customer: 8,
+            ..QUERY
+        }),
+    ),
+    (
+        Query,
+        "--number",
+        "8",
+        WantedJob::Ask(WantedCall { number: 8, ..QUERY }),
+    ),
+    (
+        Query,
+        "--id",
+        "x",
+        WantedJob::Ask(WantedCall {
+            body: WantedBody::Query("x"),
+            ..QUERY
+        }),
+    ),
     (
         Withdraw,
         "--to",
         "[::1]:9",
-        r#"to: "127.0.0.1:4711""#,
-        r#"to: "[::1]:9""#,
+        WantedJob::Ask(WantedCall {
+            to: "[::1]:9",
+            ..WITHDRAW
+        }),
     ),
-    (Withdraw, "--number", "8", "number: 5", "number: 8"),
-    (Withdraw, "--range", "8", "range: 1", "range: 8"),
+    (
+        Withdraw,
+        "--number",
+        "8",
+        WantedJob::Ask(WantedCall {
+            number: 8,
+            ..WITHDRAW
+        }),
+    ),
+    (
+        Withdraw,
+        "--range",
+        "8",
+        WantedJob::Ask(WantedCall {
+            body: WantedBody::Withdraw(8),
+            ..WITHDRAW
+        }),
+    ),
     (
         Notes,
         "--file",
         "b.notes",
-        r#"file: "a.notes""#,
-        r#"file: "b.notes""#,
+        WantedJob::Notes("b.notes", 7, 1, 999999),
     ),
-    (Notes, "--customer", "8", "customer: 7", "customer: 8"),
-    (Notes, "--first", "8", "first: 1", "first: 8"),
-    (Notes, "--last", "8", "last: 999999", "last: 8"),
+    (
+        Notes,
+        "--customer",
+        "8",
+        WantedJob::Notes("a.notes", 8, 1, 999999),
+    ),
+    (
+        Notes,
+        "--first",
+        "8",
+        WantedJob::Notes("a.notes", 7, 8, 999999),
+    ),
+    (Notes, "--last", "8", WantedJob::Notes("a.notes", 7, 1, 8)),
     (
         Again,
         "--to",
         "[::1]:9",
-        r#"to: "127.0.0.1:4711""#,
-        r#"to: "[::1]:9""#,
+        WantedJob::Again("[::1]:9", "a.notes", 5),
     ),
     (
         Again,
         "--notes",
         "b.notes",
-        r#"notes: "a.notes""#,
-        r#"notes: "b.notes""#,
+        WantedJob::Again("127.0.0.1:4711", "b.notes", 5),
     ),
     (
         Report,
         "--ledger",
         "b.db",
-        r#"ledger: "a.db""#,
-        r#"ledger: "b.db""#,
+        WantedJob::Report("b.db", RANGES, None),
     ),
-    (
-        Audit,
-        "--ledger",
-        "b.db",
-        r#"ledger: "a.db""#,
-        r#"ledger: "b.db""#,
-    ),
+    (Audit, "--ledger", "b.db", WantedJob::Audit("b.db")),
 ];
 
 #[test]
@@ -513,102 +740,159 @@ fn each_required_option_reaches_its_own_field(rt: HostRuntime) {
 }
 
 const MORE: &[Reach] = &[
-    (Serve, ONE_MORE, "--day=9", "day: None", "day: Some(9)"),
+    (
+        Serve,
+        ONE_MORE,
+        "--day=9",
+        WantedJob::Serve(WantedServer {
+            options: TurnOptions {
+                day: Some(9),
+                ..TURNS
+            },
+            ..SERVE
+        }),
+    ),
     (
         Serve,
         ONE_MORE,
         "--count=8",
-        "count: 4294967295",
-        "count: 8",
+        WantedJob::Serve(WantedServer {
+            options: TurnOptions { count: 8, ..TURNS },
+            ..SERVE
+        }),
     ),
     (
         Serve,
         ONE_MORE,
         "--senders",
-        "senders: false",
-        "senders: true",
+        WantedJob::Serve(WantedServer {
+            options: TurnOptions {
+                senders: true,
+                ..TURNS
+            },
+            ..SERVE
+        }),
     ),
     (
         Serve,
         ONE_MORE,
         "--most-days-ahead=0",
-        "most_days_ahead: None",
-        "most_days_ahead: Some(0)",
+        WantedJob::Serve(WantedServer {
+            options: TurnOptions {
+                most_days_ahead: Some(0),
+                ..TURNS
+            },
+            ..SERVE
+        }),
     ),
     (
         Serve,
         ONE_MORE,
         "--until=end",
-        "until: None",
-        r#"until: Some("end")"#,
+        WantedJob::Serve(WantedServer {
+            until: Some("end"),
+            ..SERVE
+        }),
     ),
     (
         Grant,
         ONE_MORE,
         "--tries=9",
-        "Tries { count: 5 }",
-        "Tries { count: 9 }",
+        WantedJob::Ask(WantedCall { tries: 9, ..GRANT }),
     ),
     (
         Draw,
         ONE_MORE,
         "--tries=9",
-        "Tries { count: 5 }",
-        "Tries { count: 9 }",
+        WantedJob::Ask(WantedCall { tries: 9, ..DRAW }),
     ),
     (
         Draw,
         ONE_MORE,
         "--count=9",
-        r#"Draw { service: "RA", country: "GB" }"#,
-        r#"DrawMany { service: "RA", country: "GB", count: Count { value: 9 } }"#,
+        WantedJob::Ask(WantedCall {
+            body: WantedBody::DrawMany("RA", "GB", 9),
+            ..DRAW
+        }),
     ),
     (
         Void,
         ONE_MORE,
         "--tries=9",
-        "Tries { count: 5 }",
-        "Tries { count: 9 }",
+        WantedJob::Ask(WantedCall { tries: 9, ..VOID }),
     ),
     (
         Query,
         ONE_MORE,
         "--tries=9",
-        "Tries { count: 5 }",
-        "Tries { count: 9 }",
+        WantedJob::Ask(WantedCall { tries: 9, ..QUERY }),
     ),
     (
         Withdraw,
         ONE_MORE,
         "--tries=9",
-        "Tries { count: 5 }",
-        "Tries { count: 9 }",
+        WantedJob::Ask(WantedCall {
+            tries: 9,
+            ..WITHDRAW
+        }),
     ),
     (
         Again,
         ONE_MORE,
         "--tries=9",
-        "Tries { count: 5 }",
-        "Tries { count: 9 }",
+        WantedJob::Again("127.0.0.1:4711", "a.notes", 9),
     ),
-    (Report, ONE_MORE, "--day=9", "day: None", "day: Some(9)"),
-    (Report, ONE_MORE, "--issues", ALL_RANGES, ALL_ISSUES),
-    (Report, ONE_MORE, "--csv", "format: Lines", "format: Csv"),
+    (
+        Report,
+        ONE_MORE,
+        "--day=9",
+        WantedJob::Report("a.db", RANGES, Some(9)),
+    ),
+    (
+        Report,
+        ONE_MORE,
+        "--issues",
+        WantedJob::Report("a.db", ISSUES, None),
+    ),
+    (
+        Report,
+        ONE_MORE,
+        "--csv",
+        WantedJob::Report("a.db", WantedReport::Ranges(ALL, ReportFormat::Csv), None),
+    ),
     (
         Report,
         ONE_MORE,
         "--customer=7",
-        "customer: None",
-        "customer: Some(7)",
+        WantedJob::Report(
+            "a.db",
+            WantedReport::Ranges(
+                WantedFilter {
+                    customer: Some(7),
+                    ..ALL
+                },
+                ReportFormat::Lines,
+            ),
+            None,
+        ),
     ),
     (
         Report,
         ONE_MORE,
         "--range=1",
-        "range: None",
-        "range: Some(1)",
+        WantedJob::Report(
+            "a.db",
+            WantedReport::Ranges(
+                WantedFilter {
+                    range: Some(1),
+                    ..ALL
+                },
+                ReportFormat::Lines,
+            ),
+            None,
+        ),
     ),
-    (Loop, ONE_MORE, "--day=9", "day: None", "day: Some(9)"),
+    (Loop, ONE_MORE, "--day=9", WantedJob::Loop(Some(9))),
 ];
 
 #[test]
