@@ -488,7 +488,7 @@ def is_nothing(files):
 
 
 def has_checksums(files):
-    """Returns whether the file says that its pages have checksums, which no ledger's have: the store then seals the log anew."""
+    """Returns whether the file says that its pages have checksums, which no ledger's have: the store then seals the log again."""
     return files.get("ledger", b"")[20:21] == b"\x08"
 
 

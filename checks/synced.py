@@ -4,7 +4,7 @@ other check sees a sync that is left out.
 
 Order: whenever the program says that something was done, by a line or by a datagram, and at its end, each file that it wrote is
 synced, and each folder in which it gave a file a name. What was there before counts as written by a program that was killed, unless
-it is only read. A file is synced before it is renamed, and a ledger before its log begins anew.
+it is only read. A file is synced before it is renamed, and a ledger before its log restarts.
 
 Refused: each sync of each command fails once. Nothing is said to be done that is not synced, the line and the status are those of
 a failure, and what was there before is there afterwards. The notes of a refused draw give no number twice. A server whose sync
@@ -65,7 +65,7 @@ class Disk:
 
     `files` has the state of each file with a name: synced, written, or lost, once a sync of what was written failed. `folders` has
     whether a folder has the names that it was given. A lock has nothing to lose. Of a ledger that is served, the log must be
-    synced; what is moved into the ledger must be before the log begins anew, by its first byte. `logs` has those with calls."""
+    synced; what is moved into the ledger must be before the log restarts, by its first byte. `logs` has those with calls."""
 
     def __init__(self, folder, left="synced", are_names_left=False, is_served=False):
         self.folder = str(folder)
@@ -118,10 +118,10 @@ class Disk:
             self.files[path] = "written"
 
     def write_log(self, path, call):
-        """Takes in a write to a log. One that began anew may be cut at any time: what was behind its header is nothing."""
+        """Takes in a write to a log. One that restarted may be cut at any time: what was behind its header is nothing."""
         offset = int(call.words.rsplit(", ", 1)[1]) if call.name in ("pwrite64", "ftruncate") else None
         if offset == 0 and path in self.logs:
-            holds("a log begins anew and its ledger is not synced", self.files[path.removesuffix("-wal")] == "synced", call)
+            holds("a log restarts and its ledger is not synced", self.files[path.removesuffix("-wal")] == "synced", call)
             self.logs.remove(path)
         elif call.name == "pwrite64" and offset >= LOG_HEADER:
             self.logs.add(path)

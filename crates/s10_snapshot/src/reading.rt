@@ -55,9 +55,9 @@ fn read_log<S: Source>(alloc: Global, source: &mut S, most: u64) -> Result<Vec<u
     }
 }
 
-/// Returns whether the log was not begun anew while the files were read.
+/// Returns whether no checkpoint restarted the log while the files were read.
 ///
-/// A server moves the log into the file, and then begins the log anew under another header. Until
+/// A server moves the log into the file, and then restarts the log under another header. Until
 /// then the log holds every page that it writes into the file. So the log that was read mends each
 /// page of the file that was read too early or in parts.
 pub fn is_of_one_log(reading: &Reading) -> bool

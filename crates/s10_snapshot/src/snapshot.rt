@@ -12,11 +12,12 @@ use std::alloc::Global;
 /// The maximum number of readings.
 const MAX_READINGS: u32 = 10;
 
-/// Reads the files of a ledger until the log is not begun anew meanwhile, at most ten times.
+/// Reads the files of a ledger until no checkpoint restarted the log during the read, at most ten
+/// times.
 ///
 /// # Errors
 ///
-/// - `Busy` if the log was begun anew in each of ten readings.
+/// - `Busy` if a checkpoint restarted the log in each of ten readings.
 /// - `Unread` if a reading failed.
 pub fn take_snapshot<S: Source>(alloc: Global, source: &mut S) -> Result<LedgerBytes, SnapshotFault>
     requires { S.calls source.old ≡ [] }

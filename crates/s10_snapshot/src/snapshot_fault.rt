@@ -19,7 +19,7 @@ pub enum ReadFault {
 /// The reason why there is no snapshot.
 #[derive(Clone, Copy, Debug, PartialEq, Eq, Error)]
 pub enum SnapshotFault {
-    /// The log was begun anew in each reading.
+    /// A checkpoint restarted the log in each reading.
     #[error("busy")]
     Busy,
     /// A reading failed.

@@ -17,7 +17,7 @@ type Answer = Result<&'static str, ReadFault>;
 /// What the calls of a reading return: the header before, the file, the log and the header after.
 type Step = (Answer, Answer, Answer, Answer);
 
-/// The header of a log, and the one under which it is begun anew.
+/// The header of a log, and the one under which a checkpoint restarts it.
 const FIRST: Answer = Ok("the first header of thirty-two b");
 
 const SECOND: Answer = Ok("the other header of thirty-two b");
@@ -35,7 +35,7 @@ const EMPTY: Step = (Ok(""), Ok("file"), Ok(""), Ok(""));
 
 const SHORT: Step = (Ok("short"), Ok("file"), Ok("short"), Ok("short"));
 
-/// The log was begun anew: after it was read, before it, and while it was read.
+/// A checkpoint restarted the log: after it was read, before it, and while it was read.
 const LATE: Step = (FIRST, Ok("torn"), Ok(LOG), SECOND);
 
 const EARLY: Step = (SECOND, Ok("torn"), Ok(LOG), FIRST);
