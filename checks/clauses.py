@@ -43,7 +43,7 @@ def moved(old, new):
 
 
 def without_comments(text):
-    return re.sub(r"(?m)^\s*//.*$", "", text)
+    return re.sub(r"(?m)^[ \t]*//.*$", "", text)
 
 
 def clause_at(text, at):
@@ -64,21 +64,26 @@ def is_public(text, start, is_pub, indent):
     return bool(indent) and bool(opener) and (opener[-1].startswith("trait") or " for " in opener[-1])
 
 
-def clauses_of(text):
-    """The clauses of public functions of a file: (function, words)."""
-    text, found = without_comments(text), []
+def functions_of(text):
+    """The public functions of a file that have clauses: (line from 0, function, text of each clause)."""
+    text = without_comments(text)
     for match in HEAD.finditer(text):
         if not is_public(text, match.start(), match[2], match[1]):
             continue
-        at = match.end()
+        at, found = match.end(), []
         body = re.compile(r"^" + match[1] + r"(\{|\}|fn )|;\s*$", re.M)
         stop = body.search(text, at)
         while (clause := re.compile(r"(?m)^" + CLAUSE.pattern).search(text, at)) and (not stop or clause.start() < stop.start()):
-            end = clause_at(text, clause.start())
-            found.append((match[3], WORD.findall(LAST_SEPARATOR.sub("", text[clause.start() : end]))))
-            at = end
+            at = clause_at(text, clause.start())
+            found.append(text[clause.start() : at])
             stop = body.search(text, at)
-    return found
+        if found:
+            yield text.count("\n", 0, match.start()), match[3], found
+
+
+def clauses_of(text):
+    """The clauses of public functions of a file: (function, words)."""
+    return [(function, WORD.findall(LAST_SEPARATOR.sub("", it))) for _, function, found in functions_of(text) for it in found]
 
 
 def compare(old, new):
@@ -112,4 +117,5 @@ def main():
     sys.exit(1 if wrong else 0)
 
 
-main()
+if __name__ == "__main__":
+    main()

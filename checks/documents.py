@@ -532,6 +532,17 @@ def find_ranges_granted_twice(room, command):
 SCALING = {"for ledger in": find_ranges_granted_twice}
 
 
+# docs/PROOFS.md
+
+
+def run_at_the_top(room, command):
+    """Runs the command at the top of the repository."""
+    compare(command.where(), command.shown, room.must(f"cd '{ROOT}' && {command.text}"))
+
+
+PROOFS = {"python3 checks/contracts.py": run_at_the_top}
+
+
 # docs/MIGRATING.md
 
 
@@ -660,6 +671,7 @@ def run_pages(pages):
         *run_alone(pages["docs/OPERATING.md"], OPERATING),
         *run_alone(pages["docs/SCALING.md"], SCALING),
         *run_alone(pages["docs/MIGRATING.md"], MIGRATING),
+        *run_alone(pages["docs/PROOFS.md"], PROOFS),
         *run_contrib(pages["contrib/README.md"]),
     ]
 
