@@ -14,6 +14,7 @@ import sys
 from pathlib import Path
 
 import definition_lines
+import widths
 
 ROOT = Path(__file__).resolve().parent.parent
 CRATES = ROOT / "crates"
@@ -116,6 +117,19 @@ def theorem_counts():
     return counts
 
 
+def house_counts():
+    """How wide definitions and functions are, how often the ghost `may_find` is declared, and how long the pages of docs are."""
+    functions = widths.functions(files_in("src", ".rt")).values()
+    stated = [path.read_text(encoding="utf-8") for part in ("specs", "proofs") for path in files_in(part, ".antt")]
+    return {
+        "most-arguments": max(widths.definitions(files_in("specs", ".antt")).values()),
+        "most-parameters": max(functions),
+        "wide-functions": sum(it > 6 for it in functions),
+        "may-find-declared": sum(text.count("may_find :") for text in stated),
+        "page-lines": sum(path.read_text(encoding="utf-8").count("\n") for path in ROOT.glob("docs/*.md")),
+    }
+
+
 def counts():
     """Each name that a marker may have, with its number."""
     return {
@@ -131,6 +145,7 @@ def counts():
         "specs-files": len(files_in("specs", ".antt")),
         "proofs-lines": lines_in("proofs", ".antt"),
         "proofs-files": len(files_in("proofs", ".antt")),
+        **house_counts(),
         **theorem_counts(),
     }
 
