@@ -220,7 +220,7 @@ class Room:
         (self.folder / "bin/s10").symlink_to(PROGRAM)
         self.env = {**os.environ, "PATH": f"{folder}/bin:{os.environ['PATH']}"}
         self.env.pop("S10", None)
-        self.env["S10_LIBRARY"] = ""  # s10client.py uses no C library.
+        self.env["S10_LIBRARY"] = ""  # s10client uses no C library.
 
     def ours(self, text):
         """Returns the text of a page with the port of this room."""
@@ -593,10 +593,10 @@ def checksums(room, command):
 
 
 def count_turns(room, command):
-    """Draws once more by s10client.py, stops the server, and counts its turns. The number of quiet seconds is any."""
+    """Draws once more by s10client, stops the server, and counts its turns. The number of quiet seconds is any."""
     example = room.ours(python_block("contrib/README.md", "make_notes("))
     (room.folder / "python/example.py").write_text(example, encoding="utf-8")
-    compare("the example of s10client.py", ["RA000000014GB"], room.must("python3 python/example.py"))
+    compare("the example of s10client", ["RA000000014GB"], room.must("python3 python/example.py"))
     room.stop()
     _, came = room.run(command.text)
     kinds = [sorted(line for line in lines if not line.endswith(" quiet")) for lines in (command.shown, came)]

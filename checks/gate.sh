@@ -161,6 +161,7 @@ run_checks() {
     begin_beside front_door 7200 'git rattle make flock' bash "$checks/front_door.sh"
     check counts 300 python3 python3 "$checks/counts.py"
     check build_log 600 'python3 make flock' python3 "$checks/build_log.py"
+    check python_types 300 'python3 mypy' bash "$checks/python_types.sh"
     check texts 300 'program python3' python3 "$contrib/write_texts.py" --check "$s10"
     check edges 600 'program python3' python3 "$checks/edges.py" "$s10"
     check closed_streams 300 'program python3' python3 "$checks/closed_streams.py" "$s10"

@@ -39,6 +39,7 @@ NEEDS = {
     "python3 -m venv": ("python3-setuptools",),
     "S10_LIBRARY= .build/env": ("python3-setuptools",),
     ".build/env/bin/python label.py": ("python3-setuptools", "program"),
+    "mypy ": ("mypy", "python3-setuptools"),
     "go ": ("go", "pkg-config"),
     "mcs ": ("mcs", "mono"),
     "java -Djava": ("java 17",),
@@ -150,10 +151,21 @@ def build_client(room, command):
     room.serve_new(0, 99, draws=0)
 
 
+def save_label_in_python(room, command):
+    """Saves the example of the page."""
+    (room.folder / "label.py").write_text(room.ours(documents.python_block(command.page, "draw_many")), encoding="utf-8")
+
+
 def label_in_python(room, command):
     """Runs the example of the page over a new ledger."""
-    (room.folder / "label.py").write_text(room.ours(documents.python_block(command.page, "draw_many")), encoding="utf-8")
+    save_label_in_python(room, command)
     room.serve_new(0, 99, draws=0)
+    run_and_compare(room, command)
+
+
+def check_types(room, command):
+    """Checks the types of the example of the page."""
+    save_label_in_python(room, command)
     run_and_compare(room, command)
 
 
@@ -165,6 +177,7 @@ HANDLERS = {
     "cc -std=c11 label.c": compile_example,
     "java ": run_java,
     ".build/env/bin/python label.py": label_in_python,
+    "mypy ": check_types,
     "python3 contrib/python/test_library.py": run_and_compare_words,
 }
 

@@ -1,6 +1,6 @@
 #!/usr/bin/env python3
 """Runs each example of the pages that keeps notes three times, each to a clean end, with the notes of the run before: the clients in
-Python of contrib/README.md, of contrib/python/README.md and of s10client.py, `s10` by docs/OPERATING.md and, if DRAW names it,
+Python of contrib/README.md, of contrib/python/README.md and of s10client, `s10` by docs/OPERATING.md and, if DRAW names it,
 `s10_draw` of contrib/c. No identifier may be printed twice, and nothing may be asked again: each run sends one request, a new one.
 Then a run of each is killed after its reply, and the next one must ask for that reply again.
 
@@ -43,8 +43,8 @@ def block_of(page, language, word):
 
 
 def example_of_the_client():
-    """Returns the example at the head of s10client.py, without its indentation. Its notes are made once."""
-    text = (ROOT / "contrib/python/s10client.py").read_text(encoding="utf-8").split('"""')[1]
+    """Returns the example at the head of s10client, without its indentation. Its notes are made once."""
+    text = (ROOT / "contrib/python/s10client/__init__.py").read_text(encoding="utf-8").split('"""')[1]
     lines = [it[4:] for it in text.splitlines() if it.startswith("    ")]
     return "\n".join(it if "make_notes(" not in it else f"import os\nif not os.path.exists('printer.notes'): {it}" for it in lines)
 
@@ -71,7 +71,7 @@ def examples():
     found = [
         Example("contrib/README.md", "label.py", block_of("contrib/README.md", "python", "make_notes("), python),
         Example("contrib/python/README.md", "label.py", block_of("contrib/python/README.md", "python", "make_notes("), python),
-        Example("s10client.py", "label.py", example_of_the_client(), python),
+        Example("s10client", "label.py", example_of_the_client(), python),
         Example("docs/OPERATING.md", "label.sh", block_of("docs/OPERATING.md", "sh", "printer.notes"), ["sh", "label.sh"]),
     ]
     if DRAW:

@@ -14,6 +14,7 @@ clang clang
 pkg-config pkg-config
 git git
 python3 python3
+mypy mypy
 sqlite3 sqlite3
 strip binutils
 dpkg-architecture dpkg-dev

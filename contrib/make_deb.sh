@@ -185,8 +185,11 @@ make_program() {
         put 644 "$root/$page" "$doc/$page"
     done
     check_links < <(cd "$tree$doc" && find . -type f -printf '%P\n')
-    for piece in python/s10client.py python/libs10.py python/test_s10client.py turns.awk ledger_page.py label.py health; do
+    for piece in python/test_s10client.py turns.awk ledger_page.py label.py health; do
         put 644 "$contrib/$piece" "$doc/examples/$(basename "$piece")"
+    done
+    for piece in __init__.py libs10.py; do
+        put 644 "$contrib/python/s10client/$piece" "$doc/examples/s10client/$piece"
     done
     write_scripts
     finish <<END

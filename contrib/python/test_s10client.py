@@ -491,6 +491,26 @@ class Notes(ServedTest):
         with self.assertRaises(FileNotFoundError):
             self.open()
 
+    def raised_by(self, call, *given):
+        """Returns what a call raises. Its traceback has what the call has opened."""
+        try:
+            call(*given)
+        except (OSError, ValueError, OverflowError) as raised:
+            return raised
+        self.fail("nothing was raised")
+
+    def test_a_client_that_is_not_opened_leaves_nothing_open(self):
+        make_notes(self.path, 7)
+        before, nowhere = os.listdir("/proc/self/fd"), ("127.0.0.1", 65536)
+        raised = [self.raised_by(Client, nowhere, 7, 1, print), self.raised_by(Client.open, self.path, nowhere)]
+        with self.open():
+            raised.append(self.raised_by(self.open))
+        with open(self.path, "w", encoding="ascii") as file:
+            file.write("no notes")
+        raised.append(self.raised_by(self.open))
+        self.assertEqual([type(it) for it in raised], [OverflowError, OverflowError, BlockingIOError, ValueError])
+        self.assertEqual(os.listdir("/proc/self/fd"), before)
+
     def make_open_notes(self):
         """Creates notes with an open request: its reply was not recorded."""
         make_notes(self.path, 7)

@@ -26,6 +26,9 @@ proved code of that library numbers and writes the requests and reads the replie
 this file does so. `library` names the library, or is None.
 """
 
+from __future__ import annotations
+
+import abc
 import contextlib
 import errno
 import json
@@ -36,13 +39,15 @@ import stat
 import struct
 import time
 import zlib
-from typing import NamedTuple
+from io import FileIO
+from typing import Any, Callable, Iterable, List, Mapping, NamedTuple, TypeVar, Union, cast
 
+library: str | None
 try:
-    import libs10
+    from . import libs10
     library = libs10.PATH
 except ImportError:
-    libs10 = library = None
+    library = None
 
 __all__ = [
     "Client", "make_notes", "Drawn", "Told", "S10Error", "GaveUp", "Unanswered", "NumbersSpent",
@@ -137,7 +142,7 @@ class NumberReused(Refused):
 
 
 # The refusals by outcome byte, and the kinds of request that each fits.
-_REFUSALS = {
+_REFUSALS: dict[int, tuple[type[Refused], set[int]]] = {
     1: (NotThePost, {GRANT, WITHDRAW}),
     2: (BadGrant, {GRANT}),
     3: (Overlap, {GRANT}),
@@ -167,7 +172,14 @@ class Told(NamedTuple):
     day: int
 
 
-def check_digit(serial):
+_Path = Union[str, "os.PathLike[str]"]
+_Fields = Mapping[str, Union[int, bytes]]
+_Answer = Union[int, Drawn, List[Drawn], Told, None]
+_Members = Mapping[str, Union[int, str, None]]
+_Self = TypeVar("_Self", bound="Client")
+
+
+def check_digit(serial: int) -> int:
     """Returns the check digit of a serial number, by the standard's weights."""
     return _code.check_digit(_serial(serial))
 
@@ -182,8 +194,8 @@ class Client:
     times, each time with `wait` seconds for its reply.
     """
 
-    def __init__(self, server, customer, number, write_down, *, last=LAST_NUMBER, request=None,
-                 tries=5, wait=1.0):
+    def __init__(self, server: tuple[str, int], customer: int, number: int, write_down: Callable[[bytes], object], *,
+                 last: int = LAST_NUMBER, request: bytes | None = None, tries: int = 5, wait: float = 1.0) -> None:
         self.customer = _u32(customer, "customer")
         if number != last + 1:
             _u32(number, "number")
@@ -193,81 +205,78 @@ class Client:
         self.is_open = request is not None
         self.tries, self.wait = tries, wait
         self._write_down = write_down
-        self._notes = None
-        self._link = socket.socket(socket.AF_INET, socket.SOCK_DGRAM)
-        try:
+        self._notes: _Notes | None = None
+        with contextlib.ExitStack() as opened:
+            self._link = opened.enter_context(socket.socket(socket.AF_INET, socket.SOCK_DGRAM))
             self._link.connect(server)
-        except OSError:
-            self._link.close()
-            raise
+            opened.pop_all()                    # from here on `close` closes it
 
     @classmethod
-    def open(cls, path, server, *, tries=5, wait=1.0):
+    def open(cls: type[_Self], path: _Path, server: tuple[str, int], *, tries: int = 5, wait: float = 1.0) -> _Self:
         """Opens a client that keeps its notes in a file created by `make_notes`."""
-        notes = _Notes(path)
-        try:
+        with contextlib.ExitStack() as opened:
+            notes = opened.enter_context(_Notes(path))
             client = cls(server, notes.customer, notes.next, notes.write_down, last=notes.last,
                          request=notes.request, tries=tries, wait=wait)
-        except BaseException:
-            notes.close()
-            raise
-        client._notes = notes
+            client._notes = notes
+            opened.pop_all()
         return client
 
-    def record(self):
+    def record(self) -> None:
         """Records in the notes that the last reply came and was used. The next run does not ask for it again."""
         if self._notes is not None and not self.is_open:
             self._notes.record_reply()
 
-    def close(self):
+    def close(self) -> None:
         """Closes the socket, and unlocks the notes."""
         self._link.close()
         if self._notes is not None:
             self._notes.close()
 
-    def __enter__(self):
+    def __enter__(self: _Self) -> _Self:
         return self
 
-    def __exit__(self, kind, *_):
+    def __exit__(self, kind: type[BaseException] | None, *_: object) -> None:
         try:
             if kind is None:
                 self.record()
         finally:
             self.close()
 
-    def grant(self, holder, service, country, first, last):
+    def grant(self, holder: int, service: str, country: str, first: int, last: int) -> int:
         """Grants serials to a customer, as the post. Returns the number of the range."""
-        return self._ask(GRANT, holder=_u32(holder, "holder"), service=_letters(service, "service"),
-                         country=_letters(country, "country"), first=_serial(first), last=_serial(last))
+        return cast(int, self._ask(GRANT, holder=_u32(holder, "holder"), service=_letters(service, "service"),
+                                   country=_letters(country, "country"), first=_serial(first), last=_serial(last)))
 
-    def withdraw(self, range_number):
+    def withdraw(self, range_number: int) -> None:
         """Closes a range for ever, as the post. The reply to its grant has its number."""
         self._ask(WITHDRAW, range=_u32(range_number, "range"))
 
-    def draw(self, service, country):
-        """Draws the next free identifier of a service and country. Returns a `Drawn`."""
-        return self._ask(DRAW, service=_letters(service, "service"), country=_letters(country, "country"))
+    def draw(self, service: str, country: str) -> Drawn:
+        """Draws the next free identifier of a service and country."""
+        return cast(Drawn, self._ask(DRAW, service=_letters(service, "service"), country=_letters(country, "country")))
 
-    def draw_many(self, service, country, count):
-        """Draws a sheet of 1 to 16 identifiers, all or none. Returns a list of `Drawn`."""
+    def draw_many(self, service: str, country: str, count: int) -> list[Drawn]:
+        """Draws a sheet of 1 to 16 identifiers, all or none."""
         if not (isinstance(count, int) and 1 <= count <= MOST):
             raise ValueError(f"a sheet has 1 to {MOST} identifiers, not {count!r}")
-        return self._ask(DRAW_MANY, service=_letters(service, "service"), country=_letters(country, "country"),
-                         count=count)
+        return cast(List[Drawn], self._ask(DRAW_MANY, service=_letters(service, "service"),
+                                           country=_letters(country, "country"), count=count))
 
-    def void(self, identifier):
+    def void(self, identifier: str) -> None:
         """Voids an identifier."""
         self._ask(VOID, text=_identifier(identifier))
 
-    def query(self, identifier):
-        """Queries an identifier. Returns a `Told`."""
-        return self._ask(QUERY, text=_identifier(identifier))
+    def query(self, identifier: str) -> Told:
+        """Queries an identifier."""
+        return cast(Told, self._ask(QUERY, text=_identifier(identifier)))
 
-    def again(self):
+    # The type of the answer depends on the request, which may be one of an earlier run.
+    def again(self) -> Any:
         """Sends the last request again, with its number. Returns or raises what it did, or would have."""
         if self.request is None:
             raise ValueError("nothing was asked yet")
-        outcome, answer = self._call()
+        outcome, answer = self._call(self.request)
         self.is_open = False
         if outcome:
             self.record()                       # no identifier can be lost
@@ -276,11 +285,11 @@ class Client:
         return answer
 
     @property
-    def number_of_request(self):
+    def number_of_request(self) -> int | None:
         """The number of the last request, or None."""
-        return None if self.request is None else _HEADER.unpack_from(self.request)[4]
+        return None if self.request is None else _number_of(self.request)
 
-    def _ask(self, kind, **fields):
+    def _ask(self, kind: int, **fields: int | bytes) -> Any:
         request = _code.submit(self.customer, self.number, self.last, self.request if self.is_open else None,
                                kind, fields)
         self._write_down(request)
@@ -289,12 +298,12 @@ class Client:
         return self.again()
 
     # Returns the outcome byte of the reply to the request, and the answer in it.
-    def _call(self):
-        cause = None
+    def _call(self, request: bytes) -> tuple[int, _Answer]:
+        cause: OSError | None = None
         for _ in range(self.tries):
             end = time.monotonic() + self.wait
             try:
-                self._link.send(self.request)
+                self._link.send(request)
             except OSError as error:
                 cause = error
             while (left := end - time.monotonic()) > 0:
@@ -307,30 +316,56 @@ class Client:
                     cause = error
                     time.sleep(min(left, 0.05))
                     continue
-                reply = _code.accept(self.request, datagram)
+                reply = _code.accept(request, datagram)
                 if reply is not None:
                     return reply
-        raise GaveUp(f"request {self.number_of_request}: no reply") from cause
+        raise GaveUp(f"request {_number_of(request)}: no reply") from cause
 
 
-class _InPython:
-    """Numbers and writes requests, and reads replies, without the C library."""
+class _Code(abc.ABC):
+    """Numbers and writes requests, and reads replies."""
 
-    @staticmethod
-    def check_digit(serial):
+    @classmethod
+    @abc.abstractmethod
+    def check_digit(cls, serial: int) -> int:
         """Returns the check digit of a serial number."""
+
+    @classmethod
+    @abc.abstractmethod
+    def is_identifier(cls, text: bytes) -> bool:
+        """Returns whether the bytes are an identifier."""
+
+    @classmethod
+    @abc.abstractmethod
+    def submit(cls, customer: int, number: int, last: int, pending: bytes | None, kind: int, fields: _Fields) -> bytes:
+        """Returns the datagram of a request with the next number. `pending` is the request without a reply, or None."""
+
+    @classmethod
+    @abc.abstractmethod
+    def decode(cls, request: bytes) -> tuple[int, int, int, _Fields]:
+        """Returns customer, number, kind and fields of the datagram of a request. Others raise `ValueError`."""
+
+    @classmethod
+    @abc.abstractmethod
+    def accept(cls, request: bytes, datagram: bytes) -> tuple[int, _Answer] | None:
+        """Returns the outcome byte and the answer, or None if the datagram is no reply to this request."""
+
+
+class _InPython(_Code):
+    """Does so without the C library."""
+
+    @classmethod
+    def check_digit(cls, serial: int) -> int:
         total = sum(w * int(d) for w, d in zip((8, 6, 4, 2, 3, 5, 9, 7), f"{serial:08}"))
         return {10: 0, 11: 5}.get(11 - total % 11, 11 - total % 11)
 
     @classmethod
-    def is_identifier(cls, text):
-        """Returns whether the bytes are an identifier."""
+    def is_identifier(cls, text: bytes) -> bool:
         return (re.fullmatch(rb"[A-Z]{2}[0-9]{9}[A-Z]{2}", text) is not None
                 and cls.check_digit(int(text[2:10])) == text[10] - ord("0"))
 
     @classmethod
-    def submit(cls, customer, number, last, pending, kind, fields):
-        """Returns the datagram of a request with the next number. `pending` is the request without a reply, or None."""
+    def submit(cls, customer: int, number: int, last: int, pending: bytes | None, kind: int, fields: _Fields) -> bytes:
         if pending is not None:
             raise _unanswered(pending)
         if number > last:
@@ -342,8 +377,7 @@ class _InPython:
         return request
 
     @classmethod
-    def decode(cls, request):
-        """Returns customer, number, kind and fields of the datagram of a request. Others raise `ValueError`."""
+    def decode(cls, request: bytes) -> tuple[int, int, int, _Fields]:
         if len(request) < _HEADER.size:
             raise ValueError("short")
         magic, version, kind, customer, number = _HEADER.unpack_from(request)
@@ -359,18 +393,15 @@ class _InPython:
         return customer, number, kind, fields
 
     @classmethod
-    def _fits(cls, name, value):
-        if name in ("service", "country"):
-            return re.fullmatch(rb"[A-Z]{2}", value) is not None
+    def _fits(cls, name: str, value: int | bytes) -> bool:
+        if isinstance(value, bytes):
+            return cls.is_identifier(value) if name == "text" else re.fullmatch(rb"[A-Z]{2}", value) is not None
         if name in ("first", "last"):
             return value <= LAST_SERIAL
-        if name == "count":
-            return 1 <= value <= MOST
-        return name != "text" or cls.is_identifier(value)
+        return name != "count" or 1 <= value <= MOST
 
     @classmethod
-    def accept(cls, request, datagram):
-        """Returns the outcome byte and the answer, or None if the datagram is no reply to this request."""
+    def accept(cls, request: bytes, datagram: bytes) -> tuple[int, _Answer] | None:
         try:
             kind = cls.decode(request)[2]
         except ValueError:
@@ -396,50 +427,46 @@ class _InPython:
         return None
 
 
-class _InLibrary:
-    """The same by the proved code of the C library."""
+class _InLibrary(_Code):
+    """Does so by the proved code of the C library."""
 
-    @staticmethod
-    def check_digit(serial):
-        """Returns the check digit of a serial number."""
+    @classmethod
+    def check_digit(cls, serial: int) -> int:
         return libs10.make(b"AA", serial, b"AA").text[10] - ord("0")
 
-    @staticmethod
-    def is_identifier(text):
-        """Returns whether the bytes are an identifier."""
+    @classmethod
+    def is_identifier(cls, text: bytes) -> bool:
         try:
             libs10.read(text)
         except libs10.Refused:
             return False
         return True
 
-    @staticmethod
-    def submit(customer, number, last, pending, kind, fields):
-        """Returns the datagram of a request with the next number. `pending` is the request without a reply, or None."""
+    @classmethod
+    def submit(cls, customer: int, number: int, last: int, pending: bytes | None, kind: int, fields: _Fields) -> bytes:
         try:
             return libs10.submit(customer, number, last, pending, kind, fields)
         except libs10.Refused as refused:
-            if refused.code == libs10.BUSY:
+            if refused.code == libs10.BUSY and pending is not None:
                 raise _unanswered(pending) from None
             if refused.code == libs10.NUMBERS_SPENT:
                 raise _numbers_spent(last) from None
             raise
 
-    @staticmethod
-    def decode(request):
-        """Returns customer, number, kind and fields of the datagram of a request. Others raise `ValueError`."""
+    @classmethod
+    def decode(cls, request: bytes) -> tuple[int, int, int, _Fields]:
         found = libs10.decode(request)
         names = _BODIES[found.kind][1].split()
         return found.customer, found.number, found.kind, {name: libs10.field(found, name) for name in names}
 
-    @staticmethod
-    def accept(request, datagram):
-        """Returns the outcome byte and the answer, or None if the datagram is no reply to this request."""
+    @classmethod
+    def accept(cls, request: bytes, datagram: bytes) -> tuple[int, _Answer] | None:
         try:
             outcome = libs10.accept(request, datagram)
         except libs10.Refused:
             return None
-        kind, answer = request[3], None
+        kind = request[3]
+        answer: _Answer = None
         if outcome.code == 0:
             if kind == GRANT:
                 answer = outcome.range
@@ -450,49 +477,55 @@ class _InLibrary:
         return outcome.code, answer
 
 
-_code = _InPython if libs10 is None else _InLibrary
+_code: type[_Code] = _InPython
+if library is not None:
+    _code = _InLibrary
 
 
-def _drawn(kind, texts, day):
+def _number_of(request: bytes) -> int:
+    return cast(int, _HEADER.unpack_from(request)[4])
+
+
+def _drawn(kind: int, texts: Iterable[bytes], day: int) -> Drawn | list[Drawn]:
     drawn = [Drawn(text.decode("ascii"), day) for text in texts]
     return drawn if kind == DRAW_MANY else drawn[0]
 
 
-def _unanswered(pending):
-    return Unanswered(f"request {_HEADER.unpack_from(pending)[4]} has no reply yet")
+def _unanswered(pending: bytes) -> Unanswered:
+    return Unanswered(f"request {_number_of(pending)} has no reply yet")
 
 
-def _numbers_spent(last):
+def _numbers_spent(last: int) -> NumbersSpent:
     return NumbersSpent(f"number {last} was the last one")
 
 
-def _identifier(text):
+def _identifier(text: str) -> bytes:
     data = text.encode("ascii", "replace")
     if not _code.is_identifier(data):
         raise ValueError(f"{text!r} is no identifier")
     return data
 
 
-def _letters(text, what):
+def _letters(text: str, what: str) -> bytes:
     data = text.encode("ascii", "replace")
     if re.fullmatch(rb"[A-Z]{2}", data) is None:
         raise ValueError(f"a {what} is two capital letters, not {text!r}")
     return data
 
 
-def _u32(number, what):
+def _u32(number: int, what: str) -> int:
     if not (isinstance(number, int) and 0 <= number <= 0xFFFFFFFF):
         raise ValueError(f"a {what} is a number from 0 to 4294967295, not {number!r}")
     return number
 
 
-def _serial(number):
+def _serial(number: int) -> int:
     if not (isinstance(number, int) and 0 <= number <= LAST_SERIAL):
         raise ValueError(f"a serial is a number from 0 to {LAST_SERIAL}, not {number!r}")
     return number
 
 
-def make_notes(path, customer, first=1, last=LAST_NUMBER):
+def make_notes(path: _Path, customer: int, first: int = 1, last: int = LAST_NUMBER) -> None:
     """Creates the notes of a client that has the numbers from `first` to `last`.
 
     No file may be at the path. If notes are lost, create new ones with numbers that were surely never used.
@@ -510,30 +543,38 @@ def make_notes(path, customer, first=1, last=LAST_NUMBER):
 class _Notes:
     """A file with the customer, the next number, the last number and the open request."""
 
-    def __init__(self, path):
+    def __init__(self, path: _Path) -> None:
         # A rename would replace a symbolic link, and not the notes.
         self._path = os.path.realpath(os.fspath(path))
         if not _is_regular(os.stat(self._path)):
             raise ValueError(f"{self._path} is no regular file")
-        self._file = None
-        self._lock = _lock_beside(self._path)
-        try:
-            self._file = _locked(os.open(self._path, os.O_RDWR))
+        with contextlib.ExitStack() as opened:
+            self._lock = opened.enter_context(_lock_beside(self._path))
+            self._file = opened.enter_context(_locked(os.open(self._path, os.O_RDWR)))
             self._check_name()
             self._read()
-        except BaseException:
-            self.close()
-            raise
+            opened.pop_all()
+
+    def __enter__(self) -> _Notes:
+        return self
+
+    def __exit__(self, *_: object) -> None:
+        self.close()
+
+    def close(self) -> None:
+        """Closes and unlocks the files."""
+        self._file.close()
+        self._lock.close()
 
     # A rename would replace one name of the notes, and clients by the others would use their numbers again.
-    def _check_name(self):
+    def _check_name(self) -> None:
         held, found = os.fstat(self._file.fileno()), os.stat(self._path, follow_symlinks=False)
         if not os.path.samestat(held, found):
             raise FileNotFoundError(errno.ENOENT, "other notes took the place of those that are open", self._path)
         if found.st_nlink != 1:
             raise OSError(errno.EMLINK, "the notes are linked: they have another name", self._path)
 
-    def _read(self):
+    def _read(self) -> None:
         # An earlier process may have stopped before it synced the file or its name. What is read stays.
         _sync_folder(self._path)
         os.fsync(self._file.fileno())
@@ -541,7 +582,8 @@ class _Notes:
         try:
             noted = json.loads(data.decode("ascii"))
             self.customer, self.last = _u32(noted["customer"], "customer"), _u32(noted["last"], "number")
-            self.next, request = noted["next"], noted["request"]
+            self.next: int = noted["next"]
+            request = noted["request"]
             self.request = None if request is None else bytes.fromhex(request)
             if self.next != self.last + 1 and _u32(self.next, "number") > self.last:
                 raise ValueError("the next number is above the last")
@@ -552,41 +594,36 @@ class _Notes:
         except (ValueError, TypeError, KeyError) as fault:
             raise ValueError(f"{self._path} holds no notes: {fault}") from fault
 
-    def _noted(self):
+    def _noted(self) -> _Members:
         return _members(self.customer, self.next, self.last, self.request)
 
-    def write_down(self, request):
+    def write_down(self, request: bytes) -> None:
         """Replaces the notes by those in which the request is open."""
-        self._replace(_HEADER.unpack_from(request)[4] + 1, request)
+        self._replace(_number_of(request) + 1, request)
 
-    def record_reply(self):
+    def record_reply(self) -> None:
         """Replaces the notes by those without an open request, unless they have none."""
         if self.request is not None:
             self._replace(self.next, None)
 
-    def _replace(self, number, request):
+    def _replace(self, number: int, request: bytes | None) -> None:
         self._check_name()
         file = _write_notes(self._path, _members(self.customer, number, self.last, request), self._file)
         self._file.close()
         self._file, self.next, self.request = file, number, request
 
-    def close(self):
-        for file in (self._file, self._lock):
-            if file is not None:
-                file.close()
 
-
-def _is_regular(found):
+def _is_regular(found: os.stat_result) -> bool:
     return stat.S_ISREG(found.st_mode)
 
 
-def _require_free(path):
+def _require_free(path: str) -> None:
     if os.path.lexists(path):
         raise FileExistsError(errno.EEXIST, os.strerror(errno.EEXIST), path)
 
 
 # Locks an open file, or closes it and raises `BlockingIOError`.
-def _locked(descriptor):
+def _locked(descriptor: int) -> FileIO:
     import fcntl                                # POSIX only
     file = os.fdopen(descriptor, "r+b", buffering=0)
     try:
@@ -598,38 +635,38 @@ def _locked(descriptor):
 
 
 # Locks the file `.lock` beside, which stays when a rename replaces the notes. To open a pipe could wait.
-def _lock_beside(path):
+def _lock_beside(path: str) -> FileIO:
     path += ".lock"
     if os.path.exists(path) and not _is_regular(os.stat(path)):
         raise ValueError(f"{path} is no regular file")
     return _locked(os.open(path, os.O_RDWR | os.O_APPEND | os.O_CREAT, 0o666))
 
 
-def _members(customer, number, last, request):
+def _members(customer: int, number: int, last: int, request: bytes | None) -> _Members:
     return {"customer": customer, "next": number, "last": last, "request": None if request is None else request.hex()}
 
 
 # Returns the text of notes: their members, and the check value of all that is before it.
-def _text_of(noted):
+def _text_of(noted: _Members) -> bytes:
     members = json.dumps(noted)[:-1].encode("ascii")
     return members + b', "check": "%08x"}\n' % zlib.crc32(members)
 
 
 # Returns the text that earlier versions wrote: it has no check value.
-def _older_text_of(noted):
+def _older_text_of(noted: _Members) -> bytes:
     return json.dumps(noted).encode("ascii") + b"\n"
 
 
 # Writes notes beside their file and renames them onto it, so that they are whole at any moment. They are locked and on
 # disk at the end. They have the mode of those that they replace, and for root the owner. Returns their file.
-def _write_notes(path, noted, replaced=None):
+def _write_notes(path: str, noted: _Members, replaced: FileIO | None = None) -> FileIO:
     beside = path + ".new"
     if os.path.lexists(beside):
         if not _is_regular(os.lstat(beside)):
             raise ValueError(f"{beside} is no regular file")
         os.remove(beside)                       # of a client that was stopped
-    file = _locked(os.open(beside, os.O_RDWR | os.O_CREAT | os.O_EXCL, 0o600))
-    try:
+    with contextlib.ExitStack() as opened:
+        file = opened.enter_context(_locked(os.open(beside, os.O_RDWR | os.O_CREAT | os.O_EXCL, 0o600)))
         if replaced is not None:
             found = os.fstat(replaced.fileno())
             with contextlib.suppress(PermissionError):
@@ -641,13 +678,11 @@ def _write_notes(path, noted, replaced=None):
         os.fsync(file.fileno())
         os.replace(beside, path)
         _sync_folder(path)
-    except BaseException:
-        file.close()
-        raise
+        opened.pop_all()
     return file
 
 
-def _sync_folder(path):
+def _sync_folder(path: str) -> None:
     folder = os.open(os.path.dirname(os.path.abspath(path)), os.O_RDONLY)
     try:
         os.fsync(folder)
