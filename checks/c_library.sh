@@ -42,7 +42,17 @@ grep passed make.log
 library=$work/build/libs10.a
 shared=$work/prefix/lib/libs10.so
 version=$(sed -n 's/^## \([0-9.]*\).*/\1/p' "$top/CHANGELOG.md" | head -n 1)
-[ "$(sed -n 's/^VERSION = //p' "$c/Makefile")" = "$version" ] || fail "the Makefile has another version than CHANGELOG.md"
+cat >version.c <<'END'
+#include "s10.h"
+#include <stdio.h>
+int main(void) {
+    int number = S10_LIBRARY_VERSION_NUMBER;
+    return printf("%s %d.%d.%d\n", S10_LIBRARY_VERSION, number / 10000, number / 100 % 100, number % 100) < 0;
+}
+END
+cc -std=c11 $strict -I"$c" version.c -o version
+[ "$(./version)" = "$version $version" ] || fail "s10.h has the version $(./version), CHANGELOG.md has $version"
+[ -e "$shared.$version" ] || fail "libs10.so has another version than s10.h"
 grep -qx "version = \"$version\"" "$top/contrib/python/pyproject.toml" || fail "pyproject.toml has another version"
 
 # No function but memory functions of C is needed; what the header declares and nothing else is exported.

@@ -120,7 +120,7 @@ END
 }
 
 make_library() {
-    version=$(sed -n 's/^VERSION = //p' "$contrib/c/Makefile")
+    version=$(sed -n 's/^#define S10_LIBRARY_VERSION "\(.*\)"/\1/p' "$contrib/c/s10.h")
     start libs10-dev
     make -s -C "$contrib/c" BUILD="$work/build" LIBRARY="$built" PREFIX=/usr LIBDIR="/usr/$libraries" \
         INCLUDEDIR=/usr/include DESTDIR="$tree" all install

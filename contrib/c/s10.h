@@ -21,6 +21,10 @@
 extern "C" {
 #endif
 
+/* The version of the library, as text and as a number: 10000 x major + 100 x minor + patch. */
+#define S10_LIBRARY_VERSION "0.2.0"
+#define S10_LIBRARY_VERSION_NUMBER 200
+
 enum {
     S10_TEXT_LEN = 13,        /* characters of an identifier */
     S10_MAX_REQUEST = 28,     /* bytes of the longest request */

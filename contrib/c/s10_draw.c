@@ -6,7 +6,7 @@
  * The first form creates the notes of a client. The second draws COUNT identifiers, by default 1. If
  * the run before was stopped, it first asks its last request again. It sends a request up to 5 times
  * and waits WAIT milliseconds after each, by default 1000. It prints a line for each reply: the
- * number of the request, and the day and the identifier, or the code of the refusal. A line with a
+ * number of the request, and the day and the identifier, or the word of the refusal. A line with a
  * number that was printed before repeats that line. At the end it records that the last one was
  * printed.
  *
@@ -57,12 +57,24 @@ static int fail_output(void) {
     return 3;
 }
 
+/* Prints the word of a refusal, which is the last one in the line of its reply. */
+static void print_refusal(const struct s10_frame *sent, uint32_t number, uint8_t code) {
+    uint8_t reply[S10_MAX_REQUEST + 1];
+    memcpy(reply, sent->bytes, sent->len);
+    reply[3] |= 0x80;
+    reply[sent->len] = code;
+    struct s10_line line;
+    s10_reply_line(reply, sent->len + 1, &line);
+    line.text[line.len - 1] = '\0';
+    printf("%u refused%s\n", number, strrchr(line.text, ' '));
+}
+
 /* Prints a reply. Returns 1 if the request is done, 0 if it is refused, -1 if the output failed. */
 static int print(const struct s10_frame *sent, const struct s10_outcome *outcome) {
     struct s10_request request;
     s10_decode(sent->bytes, sent->len, &request);
     if (outcome->code != S10_DONE)
-        printf("%u refused %u\n", request.number, outcome->code);
+        print_refusal(sent, request.number, outcome->code);
     else if (outcome->count == 0)
         printf("%u done\n", request.number);
     for (int i = 0; i < outcome->count; i++)

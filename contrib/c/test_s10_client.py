@@ -58,6 +58,14 @@ def check_failing_output(notes, address):
     assert not os.path.getsize(notes + ".lock"), "a line is in the lock"
 
 
+def check_refusal(folder, address):
+    """Draws by a customer without a range. The line has the word of the refusal, and the next run does not repeat it."""
+    notes = os.path.join(folder, "refused")
+    assert subprocess.run([DRAW, "create", notes, "8", "1", "9"], check=False).returncode == 0
+    for number in (1, 2):
+        assert run(notes, address, 1, wait=5000) == (f"{number} refused no-range\n", 1), number
+
+
 def main():
     choose = random.Random(1)
     with tempfile.TemporaryDirectory() as folder:
@@ -72,6 +80,7 @@ def main():
         assert subprocess.run(create, check=False).returncode == 0
         assert subprocess.run(create, stderr=subprocess.DEVNULL, check=False).returncode == 3
         check_failing_output(notes, server.address)
+        check_refusal(folder, server.address)
         log, killed = Log(), 0
         while killed < KILLS:
             output, status = run(notes, networks.address(), 1000000, choose.uniform(0, 0.15))
