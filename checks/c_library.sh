@@ -1,10 +1,10 @@
 #!/usr/bin/env bash
 # Builds the C library and tries it as a C programmer would: the symbols that it needs and exports, the same rules in plain C
 # (c_speed.c), the header as C11 and C++17, demo.c alone, under the sanitizers and under valgrind, the example of
-# contrib/c/README.md, the Debian packages, the client in Python with the library and without, the client with notes, the
-# commands of the library's pages (among them Go, C# and Java), and a build for 64-bit ARM under qemu. The client draws from
-# PROGRAM, by default crates/s10/out/s10, and is killed KILLS times, by default 100. LIBRARY names a static library that is
-# built already. Says what it skipped because the machine lacks it. The last line is `c library ok`, or the status is not 0.
+# contrib/c/README.md, the Debian packages, the client in Python with the library and without, the clients with notes (in C, Go, C#
+# and Java), the commands of the library's pages, and a build for 64-bit ARM under qemu. The clients draw from PROGRAM, by default
+# crates/s10/out/s10, and each is killed KILLS times, by default 100. LIBRARY names a static library that is built already. Says
+# what it skipped because the machine lacks it. The last line is `c library ok`, or the status is not 0.
 #
 #     [LIBRARY=LIBRARY.a] checks/c_library.sh [PROGRAM [KILLS]]
 set -euo pipefail
@@ -167,12 +167,17 @@ if have python3; then
     done
 fi
 
-# The client with notes, killed at random moments over a network that loses datagrams.
-what="client with notes"
-make -s -C "$c" BUILD="$work/build" LIBRARY="${LIBRARY:-$top/crates/s10_c/out/libs10_c.a}" s10_draw
+# The clients with notes, killed at random moments over a network that loses datagrams.
+what="clients with notes"
 if have g++; then g++ -std=c++17 $strict -I"$c" -x c++ -fsyntax-only "$c/s10_client.h"; fi
+bash "$top/checks/clients.sh" "$library" clients
 if [ -x "$program" ] && have python3; then
-    S10=$program python3 "$c/test_s10_client.py" build/s10_draw "${2:-100}"
+    for draw in clients/s10_draw{,_go,_csharp,_java}; do
+        [ -x "$draw" ] || continue
+        S10=$program LD_LIBRARY_PATH=$work/clients/prefix/lib \
+            python3 "$c/test_s10_client.py" "$draw" "${2:-100}" >draw.log 2>&1 || { cat draw.log; fail "$draw"; }
+        echo "${draw#*/}: $(tail -n 1 draw.log)"
+    done
 else
     echo "skipped $what: $program is not built"
 fi

@@ -9,93 +9,9 @@
 
 enum { CALLS = 4000000 };
 
-static struct s10_result refused(uint32_t code, size_t at) {
-    struct s10_result result = {code, (uint32_t)at};
-    return result;
-}
-
-static int is_letter(uint8_t byte) { return byte >= 'A' && byte <= 'Z'; }
-
-static int are_letters(const uint8_t *bytes) { return is_letter(bytes[0]) && is_letter(bytes[1]); }
-
-static uint32_t number_at(const uint8_t *bytes) {
-    return (uint32_t)bytes[0] << 24 | (uint32_t)bytes[1] << 16 | (uint32_t)bytes[2] << 8 | bytes[3];
-}
-
-static uint32_t group_of(uint8_t letter) {
-    switch (letter) {
-    case 'C': return S10_PARCEL;
-    case 'E': return S10_EMS;
-    case 'R': return S10_REGISTERED;
-    case 'V': return S10_INSURED;
-    default: return S10_OTHER;
-    }
-}
-
-__attribute__((noinline)) static struct s10_result plain_read(const uint8_t *text, size_t len, struct s10_id *out) {
-    static const uint32_t weights[8] = {8, 6, 4, 2, 3, 5, 9, 7};
-    if (len != S10_TEXT_LEN) return refused(S10_LENGTH, 0);
-    for (size_t i = 0; i < S10_TEXT_LEN; i++) {
-        if (i < 2 || i > 10) {
-            if (!is_letter(text[i])) return refused(S10_LETTER, i);
-        } else if (text[i] < '0' || text[i] > '9') {
-            return refused(S10_DIGIT, i);
-        }
-    }
-    uint32_t sum = 0, serial = 0;
-    for (size_t i = 0; i < 8; i++) {
-        sum += weights[i] * (text[2 + i] - '0');
-        serial = 10 * serial + (text[2 + i] - '0');
-    }
-    uint32_t digit = 11 - sum % 11;
-    if (digit == 10) digit = 0;
-    if (digit == 11) digit = 5;
-    if (digit != (uint32_t)(text[10] - '0')) return refused(S10_CHECK_DIGIT, 0);
-    memset(out, 0, sizeof *out);
-    memcpy(out->text, text, S10_TEXT_LEN);
-    memcpy(out->service, text, 2);
-    memcpy(out->country, text + 11, 2);
-    out->serial = serial;
-    out->group = group_of(text[0]);
-    return refused(S10_OK, 0);
-}
-
-__attribute__((noinline)) static struct s10_result plain_decode(const uint8_t *bytes, size_t len, struct s10_request *out) {
-    static const size_t lengths[7] = {0, 28, 16, 25, 25, 17, 16};
-    if (len < 12) return refused(S10_SHORT, 0);
-    if (bytes[0] != 'S' || bytes[1] != '1') return refused(S10_MAGIC, 0);
-    if (bytes[2] != 1 && bytes[2] != 2) return refused(S10_VERSION, 0);
-    uint8_t kind = bytes[3];
-    if (bytes[2] == 1 ? kind < S10_GRANT || kind > S10_QUERY : kind != S10_DRAW_MANY && kind != S10_WITHDRAW)
-        return refused(S10_KIND, 0);
-    if (len != lengths[kind]) return refused(S10_DATAGRAM_LENGTH, 0);
-    struct s10_request request = {.customer = number_at(bytes + 4), .number = number_at(bytes + 8), .kind = kind};
-    size_t letters = kind == S10_GRANT ? 16 : 12;
-    if (kind == S10_GRANT || kind == S10_DRAW || kind == S10_DRAW_MANY) {
-        if (!are_letters(bytes + letters)) return refused(S10_FIELD, letters);
-        if (!are_letters(bytes + letters + 2)) return refused(S10_FIELD, letters + 2);
-        memcpy(request.service, bytes + letters, 2);
-        memcpy(request.country, bytes + letters + 2, 2);
-    }
-    if (kind == S10_GRANT) {
-        request.holder = number_at(bytes + 12);
-        request.first = number_at(bytes + 20);
-        request.last = number_at(bytes + 24);
-        if (request.first > 99999999) return refused(S10_FIELD, 20);
-        if (request.last > 99999999) return refused(S10_FIELD, 24);
-    } else if (kind == S10_DRAW_MANY) {
-        request.count = bytes[16];
-        if (request.count < 1 || request.count > S10_MAX_SHEET) return refused(S10_FIELD, 16);
-    } else if (kind == S10_WITHDRAW) {
-        request.range = number_at(bytes + 12);
-    } else if (kind != S10_DRAW) {
-        struct s10_id id;
-        if (plain_read(bytes + 12, S10_TEXT_LEN, &id).code != S10_OK) return refused(S10_FIELD, 12);
-        memcpy(request.text, id.text, sizeof request.text);
-    }
-    *out = request;
-    return refused(S10_OK, 0);
-}
+/* Those of contrib/c/s10_plain.c. */
+extern __typeof__(s10_read) plain_read;
+extern __typeof__(s10_decode) plain_decode;
 
 static unsigned long compared;
 

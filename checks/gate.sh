@@ -14,7 +14,7 @@ set -u -o pipefail
 
 # The checks that must run under CI. The others need a browser, tshark, or the right to mount a disk.
 GATE_MUST='front_door counts build_log texts edges completions pages damaged killed_server killed_server_64 until killed_notes
-    killed_copy days_ahead trials refused_program together snapshots shards sizes package library c_library draw notes_files
+    killed_copy days_ahead trials refused_program together snapshots shards sizes package library c_library clients notes_files
     notes_examples closed_streams file_size_limit synced refused_sockets'
 
 top=$(dirname "$(dirname "$(readlink -f "${BASH_SOURCE[0]}")")")
@@ -151,7 +151,7 @@ judge() { # NAME SECONDS STATUS LIMIT
 # The checks, the quick ones first. contrib/README.md, which `pages` runs, tests the client in Python; `c_library` tests it with
 # the library, and runs the commands of the pages about the library.
 run_checks() {
-    local checks=$top/checks contrib=$top/contrib memory=${TMPDIR:-/tmp} draw
+    local checks=$top/checks contrib=$top/contrib memory=${TMPDIR:-/tmp} draws found
     if [ -w /dev/shm ]; then memory=/dev/shm; fi
     # No setting of the user changes what a check does.
     unset S10 S10_LIBRARY LIBRARY BROWSER MAINTAINER SOURCE_DATE_EPOCH PYTHONPATH GIT_DIR GIT_WORK_TREE GIT_INDEX_FILE
@@ -190,11 +190,12 @@ run_checks() {
     check package 900 'program python3 git' bash "$checks/package.sh" "$s10"
     check library 1200 'program rt' bash -c 'cd "$0" && rt lib && cp out/libs10_c.a "$1"' "$top/crates/s10_c" "$library"
     check c_library 1200 'program library python3 make cc nm' env LIBRARY="$library" bash "$checks/c_library.sh" "$s10" 50
-    check draw 300 'library make cc' make -s -C "$contrib/c" BUILD="$room/c" LIBRARY="$library" s10_draw
-    # The client in C is tried if it was built.
-    draw=$([ ! -x "$room/c/s10_draw" ] || echo "$room/c/s10_draw")
-    check notes_files 900 'program python3' python3 "$checks/notes_files.py" "$s10" ${draw:+"$draw"}
-    check notes_examples 900 'program python3' python3 "$checks/notes_examples.py" "$s10" ${draw:+"$draw"}
+    check clients 600 'library make cc' bash "$checks/clients.sh" "$library" "$room/c"
+    # The clients that were built are tried.
+    mapfile -t draws < <(compgen -G "$room/c/s10_draw*" | grep -v '\.exe$')
+    found=(env "LD_LIBRARY_PATH=$room/c/prefix/lib" python3)
+    check notes_files 1800 'program python3' "${found[@]}" "$checks/notes_files.py" "$s10" "${draws[@]}"
+    check notes_examples 900 'program python3' "${found[@]}" "$checks/notes_examples.py" "$s10" "${draws[@]}"
     check counter_page 1200 'library python3 rt' bash "$checks/counter_page.sh"
     end_beside
 }

@@ -36,6 +36,9 @@ NEEDS = {
     "cc ": ("cc", "pkg-config"),
     "bash ../make_deb.sh": ("cc", "make", "git", "dpkg-deb", "dpkg-shlibdeps"),
     "make s10_draw": ("make", "cc", "program"),
+    "make go": ("make", "go", "pkg-config", "program"),
+    "make csharp": ("make", "mcs", "mono", "program"),
+    "make java": ("make", "java 17", "pkg-config", "program"),
     "python3 -m venv": ("python3-setuptools",),
     "S10_LIBRARY= .build/env": ("python3-setuptools",),
     ".build/env/bin/python label.py": ("python3-setuptools", "program"),
@@ -171,6 +174,9 @@ def check_types(room, command):
 
 HANDLERS = {
     "make s10_draw": build_client,
+    "make go": build_client,
+    "make csharp": build_client,
+    "make java": build_client,
     "make": run_make,
     "sudo make install": install,
     "bash ../make_deb.sh": package,

@@ -1,10 +1,11 @@
 #!/usr/bin/env python3
 """Runs each example of the pages that keeps notes three times, each to a clean end, with the notes of the run before: the clients in
-Python of contrib/README.md, of contrib/python/README.md and of s10client, `s10` by docs/OPERATING.md and, if DRAW names it,
-`s10_draw` of contrib/c. No identifier may be printed twice, and nothing may be asked again: each run sends one request, a new one.
+Python of contrib/README.md, of contrib/python/README.md and of s10client, `s10` by docs/OPERATING.md, and each DRAW: `s10_draw` of
+contrib/c, or one of contrib/bindings with the same words and lines. No identifier may be printed twice, and nothing may be asked
+again: each run sends one request, a new one.
 Then a run of each is killed after its reply, and the next one must ask for that reply again.
 
-    python3 checks/notes_examples.py [PROGRAM [DRAW]]
+    python3 checks/notes_examples.py [PROGRAM [DRAW..]]
 """
 
 import os
@@ -16,7 +17,7 @@ from pathlib import Path
 
 ROOT = Path(__file__).resolve().parent.parent
 PROGRAM = os.path.abspath(sys.argv[1] if len(sys.argv) > 1 else ROOT / "crates/s10/out/s10")
-DRAW = os.path.abspath(sys.argv[2]) if len(sys.argv) > 2 else None
+DRAWS = [os.path.abspath(it) for it in sys.argv[2:]]
 os.environ["S10"] = PROGRAM
 sys.path.insert(0, str(ROOT / "contrib/python"))
 from test_s10client import Proxy, Server, s10  # noqa: E402
@@ -74,9 +75,7 @@ def examples():
         Example("s10client", "label.py", example_of_the_client(), python),
         Example("docs/OPERATING.md", "label.sh", block_of("docs/OPERATING.md", "sh", "printer.notes"), ["sh", "label.sh"]),
     ]
-    if DRAW:
-        found.append(Example("s10_draw", "unused", "", [DRAW, "printer.notes", "HOST", "PORT", "RA", "GB"]))
-    return found
+    return found + [Example(Path(it).name, "unused", "", [it, "printer.notes", "HOST", "PORT", "RA", "GB"]) for it in DRAWS]
 
 
 def run(words, folder):

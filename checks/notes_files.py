@@ -1,17 +1,19 @@
 #!/usr/bin/env python3
-"""Tries the files of notes by each of the clients: `s10`, the client in Python and, if DRAW names it, `s10_draw` of contrib/c.
+"""Tries the files of notes by each of the clients: `s10`, the client in Python, and each DRAW: `s10_draw` of contrib/c, or one of
+contrib/bindings with the same words and lines.
 
 Two names: by a symbolic link each client must use the file that it names. No identifier is drawn twice, and a client that has the
 notes open keeps the others out by either name, also while it waits for a reply. With a hard link each client must refuse the notes,
 and leave them as they were.
-The check value: each digit of a notes file, changed to each other one, is refused, and the file stays. Notes of earlier versions,
-which have none, are used and get one.
+The check value: each digit of a notes file, changed to each other one, is refused, and the file stays; of these changes each tenth by
+a client that takes long to start. Notes of earlier versions, which have no check value, are used and get one.
 Odd files: a pipe, a device, a folder or a symbolic link at the path of the notes, of `.new` or of `.lock` is refused at once.
 Modes: notes have the mode of those that they replace, and as root the owner; new ones are for their owner alone.
 
-    python3 checks/notes_files.py [PROGRAM [DRAW]]
+    python3 checks/notes_files.py [PROGRAM [DRAW..]]
 """
 
+import itertools
 import os
 import re
 import socket
@@ -26,7 +28,8 @@ from pathlib import Path
 
 ROOT = Path(__file__).resolve().parent.parent
 PROGRAM = os.path.abspath(sys.argv[1] if len(sys.argv) > 1 else ROOT / "crates/s10/out/s10")
-DRAW = os.path.abspath(sys.argv[2]) if len(sys.argv) > 2 else None
+DRAWS = {Path(it).name: os.path.abspath(it) for it in sys.argv[2:]}
+SLOW = ("s10_draw_csharp", "s10_draw_java")
 os.environ["S10"] = PROGRAM
 sys.path.insert(0, str(ROOT / "contrib/python"))
 from s10client import Client, GaveUp  # noqa: E402
@@ -56,8 +59,8 @@ def words_of(client, notes, address):
     """Returns the command by which a client draws once."""
     if client == "s10":
         return [PROGRAM, "draw", "--to", "{}:{}".format(*address), "--notes", notes, "--service", "RA", "--country", "GB"]
-    if client == "c":
-        return [DRAW, notes, address[0], str(address[1]), "RA", "GB"]
+    if client in DRAWS:
+        return [DRAWS[client], notes, address[0], str(address[1]), "RA", "GB"]
     return [sys.executable, "-c", PYTHON, notes, address[0], str(address[1])]
 
 
@@ -128,7 +131,7 @@ def try_at_once(client, folder, address, numbers):
         holds(f"{client} failed at once", (status == 0) == bool(drawn) and (drawn or re.search(LOCKED, printed)), printed)
 
 
-LOCKED = r"notes locked|BlockingIOError|s10_draw: Resource temporarily unavailable"
+LOCKED = r"notes locked|BlockingIOError|s10_draw: .*([Rr]esource temporarily unavailable|notes are locked)"
 
 
 def try_held(folder, address, numbers, clients):
@@ -290,8 +293,10 @@ def is_changed_refused(client, path, address):
         return False
     words = [PROGRAM, "again", "--to", "{}:{}".format(*address), "--notes", path] if client == "s10" else words_of(client, path, address)
     done = subprocess.run(words, stdin=subprocess.DEVNULL, capture_output=True, text=True, check=False, timeout=60)
-    said = {"s10": ("notes damaged\n", ""), "c": ("", "s10_draw: no notes\n")}[client]
-    return (done.stdout, done.stderr) == said and done.returncode == 3
+    if client == "s10":
+        return (done.stdout, done.stderr, done.returncode) == ("notes damaged\n", "", 3)
+    # A runtime may warn on standard error before.
+    return not done.stdout and done.stderr.endswith("s10_draw: no notes\n") and done.returncode == 3
 
 
 def changes_of(text):
@@ -309,12 +314,12 @@ def try_changed(client, folder, address, numbers):
     path = new_notes(folder, numbers)
     open_request(path)
     text, count = Path(path).read_text(encoding="ascii"), 0
-    for changed in changes_of(text):
+    for changed in itertools.islice(changes_of(text), 0, None, 10 if client in SLOW else 1):
         Path(path).write_text(changed, encoding="ascii")
         holds(f"{client} used changed notes", is_changed_refused(client, path, address), changed)
         holds(f"{client} changed notes that it refuses", Path(path).read_text(encoding="ascii") == changed, changed)
         count += 1
-    holds("few changes", count > 500, count)
+    holds("few changes", count > (50 if client in SLOW else 500), count)
     Path(path).write_text(text, encoding="ascii")
     drawn, printed, _ = draw(client, path, address)
     holds(f"{client} does not know the right notes", drawn or re.search("refused unanswered|has no reply yet", printed), printed)
@@ -357,7 +362,7 @@ NEW = '{"customer": 7, "next": 1, "last": 9, "request": null, "check": "3bd6ab45
 
 
 def main():
-    clients = ["s10", "python"] + (["c"] if DRAW else [])
+    clients = ["s10", "python", *DRAWS]
     with tempfile.TemporaryDirectory() as folder:
         server = Server(folder)
         granted = s10("grant", "--to", "{}:{}".format(*server.address), "--number", 1, "--holder", CUSTOMER, "--service", "RA",

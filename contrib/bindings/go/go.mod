@@ -1,0 +1,3 @@
+module s10client
+
+go 1.19
