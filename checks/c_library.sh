@@ -1,6 +1,6 @@
 #!/usr/bin/env bash
 # Builds the C library and tries it as a C programmer would: the symbols that it needs and exports, the same rules in plain C
-# (c_speed.c), the header as C11 and C++17, demo.c alone, under the sanitizers and under valgrind, the example of
+# (c_speed.c), the header as C99, C11 and C++17, demo.c alone, under the sanitizers and under valgrind, the example of
 # contrib/c/README.md, the Debian packages, the client in Python with the library and without, the clients with notes (in C, Go, C#
 # and Java), the commands of the library's pages, and a build for 64-bit ARM under qemu. The clients draw from PROGRAM, by default
 # crates/s10/out/s10, and each is killed KILLS times, by default 100. LIBRARY names a static library that is built already. Says
@@ -71,7 +71,8 @@ echo '#include "s10.h"' >header.c
 cp header.c header.cc
 for compiler in gcc clang; do
     what="header with $compiler"
-    if have $compiler; then $compiler -std=c11 $strict -I"$c" -fsyntax-only header.c; fi
+    have $compiler || continue
+    for standard in c99 c11; do $compiler -std=$standard $strict -I"$c" -fsyntax-only header.c; done
 done
 for compiler in g++ clang++; do
     what="header with $compiler"
@@ -172,7 +173,7 @@ what="clients with notes"
 if have g++; then g++ -std=c++17 $strict -I"$c" -x c++ -fsyntax-only "$c/s10_client.h"; fi
 bash "$top/checks/clients.sh" "$library" clients
 if [ -x "$program" ] && have python3; then
-    for draw in clients/s10_draw{,_go,_csharp,_java}; do
+    for draw in clients/s10_draw{,_go,_csharp,_java,_arm}; do
         [ -x "$draw" ] || continue
         S10=$program LD_LIBRARY_PATH=$work/clients/prefix/lib \
             python3 "$c/test_s10_client.py" "$draw" "${2:-100}" >draw.log 2>&1 || { cat draw.log; fail "$draw"; }

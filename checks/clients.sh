@@ -1,6 +1,7 @@
 #!/usr/bin/env bash
-# Builds the clients with notes for the checks that try them all: in C and, if the machine has the tools, in Go, C# and Java. Says
-# which it skipped. FOLDER gets the programs s10_draw*, and the C library in prefix/lib, in which they look for it.
+# Builds the clients with notes for the checks that try them all: in C and, if the machine has the tools, in Go, C# and Java, and in
+# C without the library for 32-bit ARM, under qemu. Says which it skipped. FOLDER gets the programs s10_draw*, and the C library in
+# prefix/lib, in which they look for it.
 #
 #     checks/clients.sh LIBRARY.a FOLDER
 set -euo pipefail
@@ -28,3 +29,10 @@ export PKG_CONFIG_PATH=$folder/prefix/lib/pkgconfig GOCACHE=$folder/go GOFLAGS=-
 build go go pkg-config
 build csharp mcs mono
 build java javac java pkg-config
+if have 'C for ARM' arm-linux-gnueabihf-gcc qemu-arm; then
+    cd "$contrib/c"
+    arm-linux-gnueabihf-gcc -std=c99 -Wall -Wextra -Wpedantic -Werror -O2 -DS10_PLAIN_C -static \
+        s10_draw.c s10_client.c s10_plain.c -o "$folder/arm"
+    printf '#!/bin/sh\nexec qemu-arm %s "$@"\n' "$folder/arm" >"$folder/s10_draw_arm"
+    chmod +x "$folder/s10_draw_arm"
+fi

@@ -14,7 +14,7 @@ set -u -o pipefail
 
 # The checks that must run under CI. The others need a browser, tshark, or the right to mount a disk.
 GATE_MUST='front_door counts build_log texts edges completions pages damaged killed_server killed_server_64 until killed_notes
-    killed_copy days_ahead trials refused_program together snapshots shards sizes package library c_library clients notes_files
+    killed_copy days_ahead trials refused_program together snapshots shards sizes package library c_library plain_c clients notes_files
     notes_examples closed_streams file_size_limit synced refused_sockets'
 
 top=$(dirname "$(dirname "$(readlink -f "${BASH_SOURCE[0]}")")")
@@ -190,6 +190,7 @@ run_checks() {
     check package 900 'program python3 git' bash "$checks/package.sh" "$s10"
     check library 1200 'program rt' bash -c 'cd "$0" && rt lib && cp out/libs10_c.a "$1"' "$top/crates/s10_c" "$library"
     check c_library 1200 'program library python3 make cc nm' env LIBRARY="$library" bash "$checks/c_library.sh" "$s10" 50
+    check plain_c 600 'library cc' bash "$checks/plain_c.sh" "$library"
     check clients 600 'library make cc' bash "$checks/clients.sh" "$library" "$room/c"
     # The clients that were built are tried.
     mapfile -t draws < <(compgen -G "$room/c/s10_draw*" | grep -v '\.exe$')

@@ -36,6 +36,7 @@ NEEDS = {
     "cc ": ("cc", "pkg-config"),
     "bash ../make_deb.sh": ("cc", "make", "git", "dpkg-deb", "dpkg-shlibdeps"),
     "make s10_draw": ("make", "cc", "program"),
+    "arm-linux-gnueabihf-gcc": ("arm-linux-gnueabihf-gcc", "qemu-arm"),
     "make go": ("make", "go", "pkg-config", "program"),
     "make csharp": ("make", "mcs", "mono", "program"),
     "make java": ("make", "java 17", "pkg-config", "program"),

@@ -39,10 +39,13 @@ mono mono-runtime
 java default-jdk-headless
 java-22 openjdk-22-jdk-headless
 aarch64-linux-gnu-gcc gcc-aarch64-linux-gnu
+arm-linux-gnueabihf-gcc gcc-arm-linux-gnueabihf
+mips-linux-gnu-gcc gcc-mips-linux-gnu
+riscv64-linux-gnu-gcc gcc-riscv64-linux-gnu
 qemu-aarch64 qemu-user
 '
-# Packages that no command shows: what clang's sanitizers, C for another processor and a Python that installs are made of.
-packages='libclang-rt-dev libc6-dev-arm64-cross python3-venv python3-setuptools python3-wheel'
+# Packages that no command shows: what clang's sanitizers, C for other processors and a Python that installs are made of.
+packages='libclang-rt-dev libc6-dev-arm64-cross libc6-dev-armhf-cross libc6-dev-mips-cross libc6-dev-riscv64-cross python3-venv python3-setuptools python3-wheel'
 
 [ "$(id -u)" = 0 ] || { echo 'tools: root installs packages'; exit 1; }
 command -v apt-get >/dev/null || { echo 'tools: no apt-get'; exit 1; }

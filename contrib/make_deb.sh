@@ -129,7 +129,7 @@ make_library() {
     strip --strip-debug --remove-section=.comment --enable-deterministic-archives "$tree/usr/$libraries/libs10.a"
     put 644 "$contrib/c/README.md" "$doc/README.md"
     check_links < <(pages) # Its page says that the others are in the package s10.
-    for piece in demo.c s10_client.c s10_client.h s10_draw.c; do
+    for piece in demo.c s10_client.c s10_client.h s10_draw.c s10_plain.c; do
         put 644 "$contrib/c/$piece" "$doc/examples/$piece"
     done
 

@@ -1,6 +1,7 @@
 /* s10.h: S10 item identifiers, and the requests and replies of the s10 service, for C and C++.
  *
- * Link with -ls10. For 64-bit little-endian machines.
+ * Link with -ls10. For 64-bit little-endian machines. For others s10_plain.c has the same functions,
+ * which are not proved: compile it into your program, and define S10_PLAIN_C before this header.
  *
  * Each function is proved to do what its comment says, for every input. It allocates no memory,
  * keeps no state, does not block and always returns. It calls no function but memcpy, memmove and
@@ -223,20 +224,26 @@ struct s10_word {
 /* Writes the word of an enum s10_code, or "no-such-code". */
 void s10_word(uint32_t code, struct s10_word *out);
 
-/* The library is built for these layouts. */
-#ifdef __cplusplus
+#if defined __cplusplus
 #define S10_LAYOUT(condition) static_assert(condition, #condition)
-#else
+#elif defined __STDC_VERSION__ && __STDC_VERSION__ >= 201112L
 #define S10_LAYOUT(condition) _Static_assert(condition, #condition)
+#else
+#define S10_LAYOUT(condition) extern char s10_layout[(condition) ? 1 : -1]
 #endif
-S10_LAYOUT(sizeof(size_t) == 8 && sizeof(struct s10_result) == 8 && sizeof(struct s10_word) == 16);
+/* These structs have one layout on all machines. */
+S10_LAYOUT(sizeof(struct s10_result) == 8 && sizeof(struct s10_word) == 16);
 S10_LAYOUT(sizeof(struct s10_id) == 28 && offsetof(struct s10_id, serial) == 20);
 S10_LAYOUT(sizeof(struct s10_request) == 44 && offsetof(struct s10_request, kind) == 24);
 S10_LAYOUT(offsetof(struct s10_request, text) == 30);
-S10_LAYOUT(sizeof(struct s10_frame) == 40 && offsetof(struct s10_frame, bytes) == 8);
 S10_LAYOUT(sizeof(struct s10_outcome) == 236 && offsetof(struct s10_outcome, texts) == 11);
+#ifndef S10_PLAIN_C
+/* The others have a size_t. The library is built for one of 64 bits. */
+S10_LAYOUT(sizeof(size_t) == 8);
+S10_LAYOUT(sizeof(struct s10_frame) == 40 && offsetof(struct s10_frame, bytes) == 8);
 S10_LAYOUT(sizeof(struct s10_client) == 64 && offsetof(struct s10_client, pending) == 24);
 S10_LAYOUT(sizeof(struct s10_line) == 520 && offsetof(struct s10_line, text) == 8);
+#endif
 #undef S10_LAYOUT
 
 #ifdef __cplusplus

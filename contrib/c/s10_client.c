@@ -1,5 +1,6 @@
 #define _POSIX_C_SOURCE 200809L
 #define _DEFAULT_SOURCE /* flock, realpath */
+#define _FILE_OFFSET_BITS 64 /* files with a number of 64 bits, on machines of 32 */
 #include "s10_client.h"
 #include <arpa/inet.h>
 #include <errno.h>
