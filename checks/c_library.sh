@@ -64,7 +64,9 @@ declared=$(grep -oE '\bs10_[a-z_]+\(' "$c/s10.h" | tr -d '(' | sort -u | xargs)
 echo "needs $needed; exports $(wc -w <<<"$exported") functions"
 
 # The library and the same rules in plain C: equal results, and the time of both.
-cc -std=c11 $strict -O2 -I"$c" "$top/checks/c_speed.c" "$library" -o c_speed
+renamed=$(sed 's/\bs10_\([a-z_]*\)/-D&=plain_\1/g' <<<"$declared")
+cc -std=c99 $strict -O2 $renamed -c "$c/s10_plain.c" -o plain.o
+cc -std=c11 $strict -O2 -I"$c" "$top/checks/c_speed.c" plain.o "$library" -o c_speed
 ./c_speed
 
 echo '#include "s10.h"' >header.c
