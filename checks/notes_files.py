@@ -9,6 +9,7 @@ The check value: each digit of a notes file, changed to each other one, is refus
 a client that takes long to start. Notes of earlier versions, which have no check value, are used and get one.
 Odd files: a pipe, a device, a folder or a symbolic link at the path of the notes, of `.new` or of `.lock` is refused at once.
 Modes: notes have the mode of those that they replace, and as root the owner; new ones are for their owner alone.
+Syncs: by strace, each client syncs new notes before it renames them, and then their folder, before it sends the request.
 
     python3 checks/notes_files.py [PROGRAM [DRAW..]]
 """
@@ -16,6 +17,7 @@ Modes: notes have the mode of those that they replace, and as root the owner; ne
 import itertools
 import os
 import re
+import shutil
 import socket
 import subprocess
 import sys
@@ -271,6 +273,21 @@ def try_modes(client, folder, address, numbers):
         holds(f"{client} did not change the notes", Path(path).read_bytes() != text, text)
 
 
+def try_synced(client, folder, address, numbers):
+    """Draws under strace, and looks for the calls in their order."""
+    folder = folder_of(folder, f"synced-{client}")
+    path, log = new_notes(folder, numbers), folder / "calls"
+    trace = ["strace", "-f", "-qq", "-y", "-s", "4", "-o", log, "-e", "trace=fsync,/^rename,write,send,sendto,sendmsg"]
+    done = subprocess.run([*trace, *words_of(client, path, address)], stdin=subprocess.DEVNULL, capture_output=True, text=True,
+                          check=False, cwd=ROOT / "contrib/python", timeout=60)
+    holds(f"{client} under strace", done.returncode == 0, done.stdout, done.stderr)
+    before = log.read_text(encoding="utf-8").split(', "S1', 1)[0]
+    place = re.escape(str(folder))
+    order = (rf"fsync\(\d+<{place}/notes\.new>", rf'rename\w*\(.*"{place}/notes\.new".*"{place}/notes"', rf"fsync\(\d+<{place}>")
+    is_right = re.search(".*".join(order), before, re.S)
+    holds(f"{client} sends a request before its notes are synced", is_right, before)
+
+
 def open_request(path):
     """Leaves a request open in notes, as a run that got no reply."""
     with socket.socket(socket.AF_INET, socket.SOCK_DGRAM) as silent:
@@ -363,6 +380,8 @@ NEW = '{"customer": 7, "next": 1, "last": 9, "request": null, "check": "3bd6ab45
 
 def main():
     clients = ["s10", "python", *DRAWS]
+    if shutil.which("strace") is None:
+        print("skipped syncs: strace")
     with tempfile.TemporaryDirectory() as folder:
         server = Server(folder)
         granted = s10("grant", "--to", "{}:{}".format(*server.address), "--number", 1, "--holder", CUSTOMER, "--service", "RA",
@@ -376,6 +395,8 @@ def main():
                 try_hard_link(client, folder, server.address, numbers)
                 try_odd_files(client, folder, server.address, numbers)
                 try_modes(client, folder, server.address, numbers)
+                if shutil.which("strace"):
+                    try_synced(client, folder, server.address, numbers)
                 try_older(client, folder, server.address, numbers)
                 changes = try_changed(client, folder, server.address, numbers)
                 print(f"{client}: {changes} changes of one digit are refused")
