@@ -7,36 +7,20 @@ set -eu
 
 s10=$(readlink -f "${1:-./s10}")
 dir=$(mktemp -d)
-server=
-trap 'if [ -n "$server" ]; then kill -9 "$server" 2>/dev/null || true; fi; rm -rf "$dir"' EXIT
+. "$(dirname "$0")/serving.sh"
+trap 'kill_server; rm -rf "$dir"' EXIT
 cd "$dir"
-
-fail() {
-    echo "failed: $1"
-    exit 1
-}
 
 # Starts a server for as many turns, and waits for its address.
 start() { # COUNT OPTION..
     count=$1
     shift
-    : > told
-    "$s10" serve --ledger ledger --bind 127.0.0.1:0 --count "$count" "$@" > turns 2> told &
-    server=$!
-    address=
-    for _ in $(seq 600); do
-        address=$(sed -n 's/^serving on //p' told)
-        if [ -n "$address" ]; then return; fi
-        sleep 0.1
-    done
-    fail 'the server does not start'
+    serve_in . ledger --count "$count" "$@"
 }
 
 # Waits for the end of the server, and compares its status.
 ended() { # STATUS
-    status=0
-    wait "$server" || status=$?
-    server=
+    await_server
     [ "$status" -eq "$1" ] || fail "the server ended with status $status: $(cat turns told)"
 }
 

@@ -37,35 +37,13 @@ the ledger can be used again"
 room=$(mktemp -d)
 disk=$room/disk
 ledger=$disk/ledger
-server=
-trap 'stop; umount -q "$disk" 2>/dev/null || true; rm -rf --one-file-system "$room"' EXIT
+. "$(dirname "$0")/serving.sh"
+trap 'kill_server; umount -q "$disk" 2>/dev/null || true; rm -rf --one-file-system "$room"' EXIT
 mkdir "$disk"
 cd "$room"
 
-fail() {
-    echo "failed: $1"
-    exit 1
-}
-
-# Starts a server. Sets `server` to its process id and `address` to its address.
 serve() { # COUNT
-    : >told
-    "$s10" serve --ledger "$ledger" --bind 127.0.0.1:0 --count "$1" --day 20000 >turns 2>told &
-    server=$!
-    for _ in $(seq 600); do
-        address=$(sed -n 's/^serving on //p' told)
-        if [ -n "$address" ]; then return; fi
-        sleep 0.1
-    done
-    fail 'the server does not start'
-}
-
-stop() {
-    if [ -n "$server" ]; then
-        kill -9 "$server" 2>/dev/null || true
-        wait "$server" 2>/dev/null || true
-        server=
-    fi
+    serve_in . "$ledger" --count "$1" --day 20000
 }
 
 # Creates a ledger with one range on a new file system of 8 MiB, of which the filler has the given number of bytes, and serves it.
@@ -79,7 +57,7 @@ begin() { # BYTES COUNT
 }
 
 end() {
-    stop
+    kill_server
     umount "$disk"
 }
 
@@ -221,7 +199,7 @@ fill_and_free() { # BYTES COMMAND WORDS
         before=$(head -n 1 "after.$first")
         [ "$(draw "$(number_in "$before")" 20)" = "$before" ] || fail "a repeat once there is space: $before"
     done
-    stop
+    kill_server
     check_ledger "$ledger" all
     echo "filled $3: $(wc -l <answered) draws, $withheld replies withheld on a full disk, then $(wc -l <continued) draws: all right"
     end
@@ -251,9 +229,7 @@ use_up() { # COUNT
         sleep 0.1
     done
     [ "$(wc -l <turns)" -ge "$1" ] || fail 'the server does not end'
-    status=0
-    wait "$server" || status=$?
-    server=
+    await_server
 }
 
 # A server reaches its count on a full disk, with nine pending calls. The next one executes them.

@@ -11,31 +11,11 @@ clients=${2:-1}
 wanted=$((clients == 1 ? 50 : 5 * clients))
 dir=$(mktemp -d)
 ledger=$dir/ledger
-server=
-trap 'if [ -n "$server" ]; then kill -9 "$server" 2>/dev/null || true; fi; rm -rf "$dir"' EXIT
+. "$(dirname "$0")/serving.sh"
+trap 'kill_server; rm -rf "$dir"' EXIT
 
-fail() {
-    echo "failed: $1"
-    exit 1
-}
-
-# Starts a server. Sets `server` to its process id and `address` to its address.
 serve() {
-    : > "$dir/told"
-    "$s10" serve --ledger "$ledger" --bind 127.0.0.1:0 --count 4294967295 --day 20000 > "$dir/turns" 2> "$dir/told" &
-    server=$!
-    for _ in $(seq 600); do
-        address=$(sed -n 's/^serving on //p' "$dir/told")
-        if [ -n "$address" ]; then return; fi
-        sleep 0.1
-    done
-    fail "the server does not start"
-}
-
-stop() {
-    kill -9 "$server"
-    wait "$server" 2>/dev/null || true
-    server=
+    serve_in "$dir" "$ledger" --count 4294967295 --day 20000
 }
 
 draw() {
@@ -70,7 +50,7 @@ for _ in $(seq 6000); do
     if [ "$(answered)" -ge "$wanted" ]; then break; fi
     sleep 0.01
 done
-stop
+kill_server
 for client in $running; do wait "$client" || true; done
 cat "$dir"/answers.* | grep ' done ' | sort > "$dir/answered"
 answered=$(wc -l < "$dir/answered")
@@ -80,7 +60,7 @@ total=$(cat "$dir"/left.* | sort -n | tail -n 1)
 serve
 : > "$dir/again"
 for number in $(seq "$total"); do draw "$number" 30 >> "$dir/again" || fail "draw $number"; done
-stop
+kill_server
 [ -z "$(sort "$dir/again" | comm -13 - "$dir/answered")" ] || fail "a repeat got another reply"
 
 "$s10" report --ledger "$ledger" --issues > "$dir/report"

@@ -45,29 +45,16 @@ esac
 is_root=
 [ "$2" = alone ] || is_root=yes
 room=$(mktemp -d)
-server=
-trap 'stop; cd /; end_mounts; rm -rf --one-file-system "$room"' EXIT
+. "$(dirname "$0")/serving.sh"
+trap 'kill_server; cd /; end_mounts; rm -rf --one-file-system "$room"' EXIT
 cp "$1" "$room/s10"
 chmod 755 "$room" "$room/s10"
 s10=$room/s10
 cd "$room"
 count=0
 
-fail() {
-    echo "failed: $1"
-    exit 1
-}
-
 end_mounts() {
     [ -z "$is_root" ] || umount -q "$room/read-only" "$room/full" "$room/small" 2>/dev/null || true
-}
-
-stop() {
-    if [ -n "$server" ]; then
-        kill -9 "$server" 2>/dev/null || true
-        wait "$server" 2>/dev/null || true
-        server=
-    fi
 }
 
 # Prints a line for each file below the folder: its name, its size, and what else may change.
@@ -127,17 +114,8 @@ create() { # STATUS LINE WORDS CHANGES FILE
     tries "$1" "$2" "$3" "$4" create --ledger "$5" --interval 30 --limit 1000
 }
 
-# Starts a server over a ledger. Sets `server` to its process id and `address` to its address.
 serve() { # FILE
-    : >../told
-    $as "$s10" serve --ledger "$1" --bind 127.0.0.1:0 --count 4294967295 --day 20000 >../turns 2>../told </dev/null &
-    server=$!
-    for _ in $(seq 600); do
-        address=$(sed -n 's/^serving on //p' ../told)
-        if [ -n "$address" ]; then return; fi
-        sleep 0.1
-    done
-    fail "the server over $1 does not start"
+    serve_in .. "$1" --count 4294967295 --day 20000
 }
 
 # Asks the server.
@@ -243,7 +221,7 @@ ask grant --number 1 --holder 7 --service RA --country GB --first 0 --last 2 >..
 draw 1 >>../answers
 draw 2 >>../answers
 [ "$(grep -c ' done ' ../answers)" = 3 ] || fail 'the calls before the refusals'
-stop
+kill_server
 tries 0 'ledger ok 3' '' '' audit --ledger ledger
 tries 0 'range customer service country first last used voided free|1 7 RA GB 00000000 00000002 2 0 1' '' \
     '~ledger 32768,~ledger-wal 41' report --ledger ledger --day 20000
@@ -345,7 +323,7 @@ for _ in $(seq 50); do
     sleep 0.1
 done
 [ "$(sed 1,3d ../told)" = "$reasons" ] || fail 'lines on standard error of a full disk'
-stop
+kill_server
 tries 0 "ledger ok $((number + 1))" '' '' audit --ledger ledger
 fi
 
@@ -360,7 +338,7 @@ tries 3 'link bind' "opening other|cannot bind $address: Address already in use 
 tries 3 'link bind' 'opening other|cannot bind 192.0.2.1:4000: Cannot assign requested address (os error 99)' '~other-wal 41' \
     serve --ledger other --bind 192.0.2.1:4000 --count 1
 tries 1 'refused peer' '' '' serve --ledger missing --bind localhost:4000 --count 1
-stop
+kill_server
 mkfifo ../statements
 sqlite3 other <../statements &
 server=$!
@@ -370,7 +348,7 @@ sleep 3
 refused other 'ledger store' 'cannot open other: database is locked' ''
 create 3 'ledger store' 'cannot open other: database is locked' '' other
 exec 3>&-
-stop
+kill_server
 
 # The commands that ask a server, while no server is at the address.
 group unanswered
@@ -435,18 +413,11 @@ sink=kept
 # after a second for each turn in which nothing comes.
 group junk
 create 0 created '' '+ledger 32768,+ledger-wal 41' ledger
-: >../told
-"$s10" serve --ledger ledger --bind 127.0.0.1:0 --count 30 --day 20000 >../turns 2>../told </dev/null &
-server=$!
 await() { # WORDS
-    for _ in $(seq 600); do
-        if grep -q "$1" ../told; then return; fi
-        sleep 0.1
-    done
-    fail "standard error has no line: $1"
+    wait_until grep -q "$1" ../told || fail "standard error has no line: $1"
 }
-await '^serving on '
-port=$(sed -n 's/^serving on 127.0.0.1://p' ../told)
+serve_in .. ledger --count 30 --day 20000
+port=${address##*:}
 bash -c "printf junk >/dev/udp/127.0.0.1/$port"
 await '^dropped from 127.0.0.1:[0-9]*$'
 for _ in 1 2 3 4 5; do bash -c "printf junk >/dev/udp/127.0.0.1/$port"; done
@@ -498,6 +469,6 @@ draw_by_notes() { # SINK WORDS
 }
 draw_by_notes closed 'Bad file descriptor (os error 9)'
 draw_by_notes full 'No space left on device (os error 28)'
-stop
+kill_server
 
 echo "$count commands: each ended as is written, and left its folder as is written"

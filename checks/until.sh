@@ -7,15 +7,10 @@ set -eu
 
 s10=$(readlink -f "${1:-./s10}")
 dir=$(mktemp -d)
-server=
+. "$(dirname "$0")/serving.sh"
 clients=
-trap 'for process in $server $clients; do kill -9 "$process" 2>/dev/null || true; done; rm -rf "$dir"' EXIT
+trap 'kill_server; for process in $clients; do kill -9 "$process" 2>/dev/null || true; done; rm -rf "$dir"' EXIT
 cd "$dir"
-
-fail() {
-    echo "failed: $1"
-    exit 1
-}
 
 # Draws one after another until a draw gets no reply, and appends the replies to a file of the client.
 client() { # CUSTOMER
@@ -26,16 +21,7 @@ client() { # CUSTOMER
 }
 
 [ "$("$s10" create --ledger ledger --interval 30 --limit 1000000)" = created ] || fail create
-: > told
-"$s10" serve --ledger ledger --bind 127.0.0.1:0 --until end --day 20000 > turns 2> told &
-server=$!
-address=
-for _ in $(seq 600); do
-    address=$(sed -n 's/^serving on //p' told)
-    if [ -n "$address" ]; then break; fi
-    sleep 0.1
-done
-[ -n "$address" ] || fail 'the server does not start'
+serve_in . ledger --until end --day 20000
 for customer in 7 8; do
     "$s10" grant --to "$address" --number "$customer" --holder "$customer" --service RA --country GB \
         --first "${customer}000000" --last "${customer}999999" > /dev/null || fail grant
@@ -45,9 +31,7 @@ done
 sleep 2
 touch end
 began=$(date +%s%N)
-status=0
-wait "$server" || status=$?
-server=
+await_server
 took=$((($(date +%s%N) - began) / 1000000))
 [ "$status" -eq 0 ] || fail "the server ended with status $status"
 [ "$took" -le 2000 ] || fail "the server ended after $took ms"
