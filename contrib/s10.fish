@@ -63,7 +63,7 @@ complete -c s10 -n '__fish_seen_subcommand_from serve; and test (commandline -op
 complete -c s10 -n '__fish_seen_subcommand_from serve; and test (commandline -opc)[2] = serve; and not __fish_contains_opt help' -s h -l help -d 'Print help'
 complete -c s10 -n '__fish_seen_subcommand_from grant; and test (commandline -opc)[2] = grant; and not __fish_contains_opt to' -l to -x -d 'The address of the server, as 127.0.0.1:4711'
 complete -c s10 -n '__fish_seen_subcommand_from grant; and test (commandline -opc)[2] = grant; and not __fish_contains_opt number' -l number -x -d 'The number of the request. The same number with the same request is answered again'
-complete -c s10 -n '__fish_seen_subcommand_from grant; and test (commandline -opc)[2] = grant; and not __fish_contains_opt notes' -l notes -x -d 'The notes of a client, in the place of its customer and number: the request gets their next number'
+complete -c s10 -n '__fish_seen_subcommand_from grant; and test (commandline -opc)[2] = grant; and not __fish_contains_opt notes' -l notes -x -d 'The notes of a client, which give the request its customer and its number'
 complete -c s10 -n '__fish_seen_subcommand_from grant; and test (commandline -opc)[-1] = --notes' -F
 complete -c s10 -n '__fish_seen_subcommand_from grant; and test (commandline -opc)[2] = grant; and not __fish_contains_opt holder' -l holder -x -d 'The number of the customer to grant to'
 complete -c s10 -n '__fish_seen_subcommand_from grant; and test (commandline -opc)[2] = grant; and not __fish_contains_opt service' -l service -x -d 'The service indicator: two capital letters, as RA'
@@ -75,7 +75,7 @@ complete -c s10 -n '__fish_seen_subcommand_from grant; and test (commandline -op
 complete -c s10 -n '__fish_seen_subcommand_from draw; and test (commandline -opc)[2] = draw; and not __fish_contains_opt to' -l to -x -d 'The address of the server, as 127.0.0.1:4711'
 complete -c s10 -n '__fish_seen_subcommand_from draw; and test (commandline -opc)[2] = draw; and not __fish_contains_opt customer' -l customer -x -d 'The number of the customer that asks; 0 is the post'
 complete -c s10 -n '__fish_seen_subcommand_from draw; and test (commandline -opc)[2] = draw; and not __fish_contains_opt number' -l number -x -d 'The number of the request. The same number with the same request is answered again'
-complete -c s10 -n '__fish_seen_subcommand_from draw; and test (commandline -opc)[2] = draw; and not __fish_contains_opt notes' -l notes -x -d 'The notes of a client, in the place of its customer and number: the request gets their next number'
+complete -c s10 -n '__fish_seen_subcommand_from draw; and test (commandline -opc)[2] = draw; and not __fish_contains_opt notes' -l notes -x -d 'The notes of a client, which give the request its customer and its number'
 complete -c s10 -n '__fish_seen_subcommand_from draw; and test (commandline -opc)[-1] = --notes' -F
 complete -c s10 -n '__fish_seen_subcommand_from draw; and test (commandline -opc)[2] = draw; and not __fish_contains_opt service' -l service -x -d 'The service indicator: two capital letters, as RA'
 complete -c s10 -n '__fish_seen_subcommand_from draw; and test (commandline -opc)[2] = draw; and not __fish_contains_opt country' -l country -x -d 'The country code: two capital letters, as GB'
@@ -85,7 +85,7 @@ complete -c s10 -n '__fish_seen_subcommand_from draw; and test (commandline -opc
 complete -c s10 -n '__fish_seen_subcommand_from void; and test (commandline -opc)[2] = void; and not __fish_contains_opt to' -l to -x -d 'The address of the server, as 127.0.0.1:4711'
 complete -c s10 -n '__fish_seen_subcommand_from void; and test (commandline -opc)[2] = void; and not __fish_contains_opt customer' -l customer -x -d 'The number of the customer that asks; 0 is the post'
 complete -c s10 -n '__fish_seen_subcommand_from void; and test (commandline -opc)[2] = void; and not __fish_contains_opt number' -l number -x -d 'The number of the request. The same number with the same request is answered again'
-complete -c s10 -n '__fish_seen_subcommand_from void; and test (commandline -opc)[2] = void; and not __fish_contains_opt notes' -l notes -x -d 'The notes of a client, in the place of its customer and number: the request gets their next number'
+complete -c s10 -n '__fish_seen_subcommand_from void; and test (commandline -opc)[2] = void; and not __fish_contains_opt notes' -l notes -x -d 'The notes of a client, which give the request its customer and its number'
 complete -c s10 -n '__fish_seen_subcommand_from void; and test (commandline -opc)[-1] = --notes' -F
 complete -c s10 -n '__fish_seen_subcommand_from void; and test (commandline -opc)[2] = void; and not __fish_contains_opt id' -l id -x -d 'The identifier; spaces and small letters are read as on a label'
 complete -c s10 -n '__fish_seen_subcommand_from void; and test (commandline -opc)[2] = void; and not __fish_contains_opt tries' -l tries -x -d 'The maximum number of sends, 1 to 100; each receive after a send waits up to a second [default: 5]'
@@ -93,14 +93,14 @@ complete -c s10 -n '__fish_seen_subcommand_from void; and test (commandline -opc
 complete -c s10 -n '__fish_seen_subcommand_from query; and test (commandline -opc)[2] = query; and not __fish_contains_opt to' -l to -x -d 'The address of the server, as 127.0.0.1:4711'
 complete -c s10 -n '__fish_seen_subcommand_from query; and test (commandline -opc)[2] = query; and not __fish_contains_opt customer' -l customer -x -d 'The number of the customer that asks; 0 is the post'
 complete -c s10 -n '__fish_seen_subcommand_from query; and test (commandline -opc)[2] = query; and not __fish_contains_opt number' -l number -x -d 'The number of the request. The same number with the same request is answered again'
-complete -c s10 -n '__fish_seen_subcommand_from query; and test (commandline -opc)[2] = query; and not __fish_contains_opt notes' -l notes -x -d 'The notes of a client, in the place of its customer and number: the request gets their next number'
+complete -c s10 -n '__fish_seen_subcommand_from query; and test (commandline -opc)[2] = query; and not __fish_contains_opt notes' -l notes -x -d 'The notes of a client, which give the request its customer and its number'
 complete -c s10 -n '__fish_seen_subcommand_from query; and test (commandline -opc)[-1] = --notes' -F
 complete -c s10 -n '__fish_seen_subcommand_from query; and test (commandline -opc)[2] = query; and not __fish_contains_opt id' -l id -x -d 'The identifier; spaces and small letters are read as on a label'
 complete -c s10 -n '__fish_seen_subcommand_from query; and test (commandline -opc)[2] = query; and not __fish_contains_opt tries' -l tries -x -d 'The maximum number of sends, 1 to 100; each receive after a send waits up to a second [default: 5]'
 complete -c s10 -n '__fish_seen_subcommand_from query; and test (commandline -opc)[2] = query; and not __fish_contains_opt help' -s h -l help -d 'Print help'
 complete -c s10 -n '__fish_seen_subcommand_from withdraw; and test (commandline -opc)[2] = withdraw; and not __fish_contains_opt to' -l to -x -d 'The address of the server, as 127.0.0.1:4711'
 complete -c s10 -n '__fish_seen_subcommand_from withdraw; and test (commandline -opc)[2] = withdraw; and not __fish_contains_opt number' -l number -x -d 'The number of the request. The same number with the same request is answered again'
-complete -c s10 -n '__fish_seen_subcommand_from withdraw; and test (commandline -opc)[2] = withdraw; and not __fish_contains_opt notes' -l notes -x -d 'The notes of a client, in the place of its customer and number: the request gets their next number'
+complete -c s10 -n '__fish_seen_subcommand_from withdraw; and test (commandline -opc)[2] = withdraw; and not __fish_contains_opt notes' -l notes -x -d 'The notes of a client, which give the request its customer and its number'
 complete -c s10 -n '__fish_seen_subcommand_from withdraw; and test (commandline -opc)[-1] = --notes' -F
 complete -c s10 -n '__fish_seen_subcommand_from withdraw; and test (commandline -opc)[2] = withdraw; and not __fish_contains_opt range' -l range -x -d 'The number of the range to close, as its grant was answered with'
 complete -c s10 -n '__fish_seen_subcommand_from withdraw; and test (commandline -opc)[2] = withdraw; and not __fish_contains_opt tries' -l tries -x -d 'The maximum number of sends, 1 to 100; each receive after a send waits up to a second [default: 5]'
