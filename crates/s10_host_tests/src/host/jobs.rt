@@ -1,7 +1,7 @@
 //! Jobs of command lines.
 
 use crate::host::job_words::job_of;
-use s10_host::{HashSeed, run_job};
+use s10_host::{HashSeed, JobEnd, run_job};
 use s10_jobs::{ClockDays, Job, JobStatus};
 use s10_test_help::expect::holds;
 use s10_test_help::words::Words;
@@ -10,17 +10,20 @@ use std::io::{Error, ErrorKind};
 use std::{fs, io};
 
 /// Returns whether a job ends with this status and prints this line.
-fn is_ended(
-    rt: &HostRuntime,
-    job: &Job<'_>,
+fn is_ended<'x>(
+    rt: &'x HostRuntime,
+    job: &Job<'x>,
     seed: io::Result<HashSeed>,
     status: JobStatus,
     line: &str,
 ) -> bool {
     let mut output = Vec::new(rt.alloc());
     let mut days = ClockDays { clock: rt };
-    let ended = run_job(rt, job, seed, Unknown, &mut days, &mut output);
-    ended.done == Ok(status) && output.as_slice() == line.as_bytes()
+    let JobEnd {
+        done,
+        resources: _used,
+    } = run_job(rt, job, seed, Unknown, &mut days, &mut output);
+    done == Ok(status) && output.as_slice() == line.as_bytes()
 }
 
 /// Returns the same for the job that a command line asks for, with this seed.

@@ -1,7 +1,7 @@
 //! Questions with texts that are refused, questions over sockets, and questions by notes.
 
 use crate::host::job_words::job_of;
-use s10_host::{HashSeed, run_job};
+use s10_host::{HashSeed, JobEnd, run_job};
 use s10_jobs::{ClockDays, Job, JobStatus};
 use s10_lines::WriteFault;
 use s10_test_help::expect::holds;
@@ -113,13 +113,17 @@ const BY_NOTES: &[Case] = &[
 ];
 
 /// Runs a job and returns its result.
-fn answer_of<W: Write>(
-    rt: &HostRuntime,
-    job: &Job<'_>,
+fn answer_of<'x, W: Write>(
+    rt: &'x HostRuntime,
+    job: &Job<'x>,
     out: &mut W,
 ) -> Result<JobStatus, WriteFault> {
     let mut days = ClockDays { clock: rt };
-    run_job(rt, job, Ok(HashSeed::fixed()), Unknown, &mut days, out).done
+    let JobEnd {
+        done,
+        resources: _used,
+    } = run_job(rt, job, Ok(HashSeed::fixed()), Unknown, &mut days, out);
+    done
 }
 
 /// Returns whether a job ends with this status and prints this line, and fails if the writer accepts
