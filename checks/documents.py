@@ -50,6 +50,13 @@ NOT_RUN = (
     ("# lintian", "root and lintian"),
     ("# dpkg", "root"),
     ("# ls /var/lib/private", "root and systemd"),
+    ("# apt-get", "root"),
+    ("# adduser", "root"),
+    ("# gluster", "root and GlusterFS, which checks/standby.py uses"),
+    ("# bash contrib/standby/volume", "root and GlusterFS, which checks/standby.py uses"),
+    ("# mount", "root and GlusterFS, which checks/standby.py uses"),
+    ("# chown", "root and GlusterFS, which checks/standby.py uses"),
+    ("# umount", "root and GlusterFS, which checks/standby.py uses"),
 )
 
 # What a command needs beside what a Unix system has, by how it begins.

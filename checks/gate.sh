@@ -186,6 +186,8 @@ run_checks() {
     check together 900 'program python3' env TMPDIR="$memory" python3 "$checks/together.py" "$s10"
     check snapshots 300 'program python3' env TMPDIR="$memory" python3 "$checks/snapshots.py" "$s10"
     check shards 900 'program python3' env TMPDIR="$memory" bash "$checks/shards.sh" "$s10" 2000
+    check standby 900 'program python3 root unshare nsenter ip bridge nft arping glusterd gluster mount.glusterfs' \
+        python3 "$checks/standby.py" "$s10"
     check sizes 1200 'program python3' env TMPDIR="$memory" python3 "$checks/sizes.py" "$s10"
     check package 900 'program python3 git' bash "$checks/package.sh" "$s10"
     check library 1200 'program rt' bash -c 'cd "$0" && rt lib && cp out/libs10_c.a "$1"' "$top/crates/s10_c" "$library"

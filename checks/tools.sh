@@ -22,6 +22,10 @@ lintian lintian
 valgrind valgrind
 strace strace
 unshare util-linux
+ip iproute2
+nft nftables
+arping iputils-arping
+glusterd glusterfs-server
 chromium chromium
 tshark tshark
 zint zint
