@@ -187,13 +187,13 @@ class Machines:
                 raise Failed(f"{words} in {seconds} s")
             time.sleep(0.2)
 
-    def wait_for_bricks(self, machine):
-        """Waits until the machine sees all bricks online."""
+    def wait_for_bricks(self, machine, count=3):
+        """Waits until the machine sees that many bricks online."""
 
-        def all_online():
-            return len(re.findall(r"^Brick .* Y +\d+ *$", machine.run("gluster", "volume", "status", VOLUME, check=False), re.M)) == 3
+        def are_online():
+            return len(re.findall(r"^Brick .* Y +\d+ *$", machine.run("gluster", "volume", "status", VOLUME, check=False), re.M)) == count
 
-        self.until(all_online, f"{machine.name} does not see all bricks")
+        self.until(are_online, f"{machine.name} does not see {count} bricks")
 
     def entries(self, machine):
         """Returns how many entries each brick says are to be healed, `-` for one that cannot be reached."""
@@ -216,6 +216,7 @@ class Machines:
         """Ends `block`."""
         run("ip", "netns", "exec", SWITCH, "nft", "delete table bridge cut")
 
-    def sums(self, names):
-        """Returns the checksum of these files on each machine's own disk."""
-        return [run("sh", "-c", f"cd {machine.brick} && cat {' '.join(names)} | sha256sum").split()[0][:8] for machine in self.trio]
+    def copies(self, folder, machines):
+        """Returns how many different copies of a ledger's files these machines have on their own disks."""
+        command = "cat ledger ledger-wal 2>/dev/null | sha256sum"
+        return len({run("sh", "-c", f"cd {machine.brick}/{folder} && {command}") for machine in machines})

@@ -38,7 +38,8 @@ class Service:
         self.machines = [place.trio[at] for at in machines]
         self.logs, self.turns, self.asking, self.running = [], [], [], {}
         self.next = MILLION
-        self.patience = 0
+        # Settings of contrib/standby that differ from those of `settings`.
+        self.values = {"VOLUME": VOLUME, "LEDGER": f"{name}/ledger", "ADDRESS": self.address, "RUN_AS": USER, "QUIET": 3, "PATIENCE": 0}
 
     # The ledger and its servers.
 
@@ -58,8 +59,7 @@ class Service:
     def settings(self, machine):
         """Writes the settings of a machine, those of contrib with these values. Returns their path."""
         path = Path(machine.folder, self.name)
-        values = {"VOLUME": VOLUME, "MOUNT": f"{path}.mount", "LEDGER": f"{self.name}/ledger", "ADDRESS": self.address, "DEVICE": "eth0",
-                  "RUN_AS": USER, "FIRST_WAIT": 2 * self.machines.index(machine), "QUIET": 3, "PATIENCE": self.patience}  # fmt: skip
+        values = {**self.values, "MOUNT": f"{path}.mount", "FIRST_WAIT": 2 * self.machines.index(machine)}
         path.write_text((STANDBY / "settings").read_text() + "".join(f"{name}={value}\n" for name, value in values.items()))
         return path
 
@@ -81,6 +81,12 @@ class Service:
             machine.resume()
         for process in children(self.running[machine.name][0].pid):
             os.kill(process, number)
+
+    def hang(self, machine):
+        """Stops takeover and what it started on a machine, but not the client of the mount."""
+        for process in children(self.running[machine.name][0].pid):
+            for it in (process, *children(process)):
+                os.kill(it, signal.SIGSTOP)
 
     def said(self, machine):
         """Returns what takeover and its servers said on standard error, on a machine where it runs."""
@@ -115,8 +121,7 @@ class Service:
         self.create()
         for machine in self.machines:
             self.start(machine)
-        if self.holder() != self.machines[0]:
-            raise Failed(f"{self.name}: another machine than the first one serves")
+        self.holder()
         self.grant()
 
     def grant(self):

@@ -10,10 +10,12 @@ Three machines, each with a brick of a GlusterFS volume (machines.py), run contr
              again, and must give an identifier that another one gives too
   right      the same by hand with the right option, which must do no harm
   lost       the serving machine is lost or cut off, in each way of LOSSES in turn, and joined again; `lost:WAY,WAY` in these ways
-  link       only the link between the serving machine and the next one is cut: that one must not serve
-  brick      a machine that does not serve is lost and comes back: `restart` starts the server again once no printer asks. Then the
-             third machine is lost
+  others     what does not serve is lost: the link between the serving machine and another one, which must not serve then; after
+             that `restart` must start the server again once no printer asks; a machine; the third one, before `restart`
+  alone      both machines that do not serve are lost: no new request may get a reply until one of them is back
+  hung       server and takeover hang while the machine's mount answers: no other machine may serve
   three      three ledgers, of which each machine serves one and stands by for another. A machine is lost
+  size:CALLS,CALLS   the serving machine is lost with a ledger of that many calls; in none of the lists below
 
 By default the parts of SHORT, which take less than five minutes. `long` are those of LONG. PRINTERS is how many printers draw, otherwise
 8. At the end of a part each reply must be in its ledger, no identifier may be on two requests, the audit must print `ledger ok`, and the
@@ -31,8 +33,9 @@ import time
 from pathlib import Path
 
 import machines
+import scaling
 from machines import Machines, children, run
-from served import PATIENCE, PORT, STANDBY, Service, replies
+from served import MILLION, PATIENCE, PORT, STANDBY, Service, replies
 from serving import PROGRAM, Failed
 
 PRINTERS = int(os.environ.get("PRINTERS", "8"))
@@ -40,8 +43,10 @@ PRINTERS = int(os.environ.get("PRINTERS", "8"))
 # has; it is cut off and joined again; the same, and all of it stands still meanwhile; the same, and takeover alone stands still, so
 # that its server goes on.
 LOSSES = ("killed", "power", "half-written", "cut", "still", "unguarded")
-SHORT = ["wrong", "lost=3:power,half-written,unguarded", "brick"]
-LONG = ["wrong=2", "right=2", "lost=20", "link=2", "brick=2", "three"]
+SHORT = ["wrong", "lost=6", "others"]
+LONG = ["wrong=2", "right=2", "lost=20", "others=2", "alone", "hung", "three=3"]
+# Seconds for which what does not serve is lost.
+AWAY = 12
 STRICT = "client.strict-locks"
 chance = random.Random(os.environ.get("SEED"))
 
@@ -59,9 +64,9 @@ def end(service):
     place.until(lambda: place.is_healed(place.trio[0]), "not healed", PATIENCE)
     faults, draws = service.faults()
     place.until(lambda: place.is_healed(place.trio[0]), "not healed", PATIENCE)
-    sums = place.sums([f"{service.name}/ledger", f"{service.name}/ledger-wal"])
-    if len(set(sums)) != 1:
-        faults["bricks that differ"] = len(set(sums))
+    copies = place.copies(service.name, place.trio)
+    if copies != 1:
+        faults["different copies"] = copies
     tell(f"{service.name}: {draws} draws got a reply; {faults or 'no fault'}")
     return faults
 
@@ -93,12 +98,12 @@ def lose(service, machine, way):
         place.unblock()
 
 
-def join(service, machine, way):
-    """Joins a machine that was lost or cut off."""
+def join(service, machine, way, bricks=3):
+    """Joins a machine that was lost or cut off. That many bricks are online then."""
     machine.link(True)
     if way in ("killed", "power", "half-written"):
         machine.boot()
-        service.place.wait_for_bricks(machine)
+        service.place.wait_for_bricks(machine, bricks)
         machine.attach()
         service.start(machine)
     if way == "still":
@@ -123,19 +128,21 @@ def restart(service, machine):
 def lose_and_join(service, log, way):
     """Loses the serving machine at a random moment, and joins it once another serves. Returns the seconds until the first reply."""
     machine = service.holder()
-    time.sleep(chance.uniform(1, 3))
+    time.sleep(chance.uniform(0.5, 2))
     since = time.time()
     lose(service, machine, way)
+    others = [it for it in service.machines if it is not machine]
+    differ = ", the two others differ" if service.place.copies(service.name, others) > 1 else ""
     took = service.first_reply(log, since + 0.5) - since
     time.sleep(chance.uniform(0, 3))
-    others = [it for it in service.machines if it is not machine and it.has(service.address)]
+    server = next(it.name for it in others if it.has(service.address))
     join(service, machine, way)
-    tell(f"{way}: {machine.name} lost, first reply by {others[0].name} after {took:.1f} s")
+    tell(f"{way}: {machine.name} lost{differ}, first reply by {server} after {took:.1f} s")
     return took
 
 
 def lost(place, name, count, ways):
-    """The serving machine is lost, in these ways in turn. After every other time the next one is lost before the first is healed."""
+    """The serving machine is lost, in these ways in turn. Most are lost before the one before is healed."""
     ways = ways or LOSSES
     service = Service(place, name)
     service.begin()
@@ -146,10 +153,11 @@ def lost(place, name, count, ways):
     for at in range(count):
         way = ways[at % len(ways)]
         took.setdefault(way, []).append(lose_and_join(service, log, way))
-        if at % 2:
+        if at % 4 == 3:
             restart(service, place.trio[0])
     for way, seconds in took.items():
-        tell(f"{way}: {len(seconds)} times, first reply after {min(seconds):.1f} to {max(seconds):.1f} s, median {statistics.median(seconds):.1f} s")
+        middle = statistics.median(seconds)
+        tell(f"{way}: {len(seconds)} times, first reply after {min(seconds):.1f} to {max(seconds):.1f} s, median {middle:.1f} s")
     must_be_none(end(service))
 
 
@@ -232,7 +240,7 @@ def right(place, name, count, _):
         must_be_none(cut_by_hand(place, f"{name}.{at}"))
 
 
-# Another machine, or a link, is lost.
+# What does not serve is lost.
 
 
 def longest_gap(log, since):
@@ -241,62 +249,118 @@ def longest_gap(log, since):
     return max(after - before for before, after in zip(times, times[1:]))
 
 
-def link(place, name, count, _):
-    """Only the link between the serving machine and the next one is cut."""
+def others(place, name, count, _):
+    """A link and machines that do not serve are lost."""
     service = Service(place, name)
-    service.begin()
-    log = service.ask(place.printers, PRINTERS)
-    for _ in range(count):
-        first = service.holder()
-        other = place.after(first)
-        before = service.said(other).count("serving on")
-        time.sleep(chance.uniform(1, 3))
-        since = time.time()
-        place.block(first, other)
-        time.sleep(20)
-        gap = longest_gap(log, since)
-        if service.said(other).count("serving on") != before:
-            raise Failed("a machine serves that reaches the third one alone")
-        place.unblock()
-        restart(service, service.holder())
-        tell(f"link: cut for 20 s; the longest time without a reply was {gap:.1f} s")
-    must_be_none(end(service))
-
-
-def brick(place, name, count, _):
-    """Machines that do not serve are lost."""
-    service = Service(place, name)
-    service.patience = 1800
+    service.values["PATIENCE"] = 1800
     service.begin()
     for _ in range(count):
         first = service.holder()
         second, third = (it for it in place.trio if it is not first)
         log = service.ask(place.printers, PRINTERS)
-        time.sleep(1)
-        gap = without(service, log, second)
-        again = service.restart(first, stderr=subprocess.PIPE, text=True)
-        time.sleep(15)
-        if "again" in service.said(first) or again.poll() is not None:
-            raise Failed("restart does not wait for a quiet moment")
-        service.hush()
-        said = again.communicate(timeout=PATIENCE)[1]
-        if "started again" not in said:
-            raise Failed(f"restart says {said}")
-        place.until(lambda: place.is_healed(place.trio[0]), "not healed", PATIENCE)
+        must_see_nothing(service, first)
+        gaps = [without_link(service, log, first, second)]
+        restart_when_quiet(service, first)
+        first = service.holder()
+        second, third = (it for it in place.trio if it is not first)
         log = service.ask(place.printers, PRINTERS)
         service.first_reply(log, 0)
-        tell(f"brick: {second.name} lost, then {third.name}: the longest time without a reply was {gap:.1f} and {without(service, log, third):.1f} s")
+        gaps += [without(service, log, machine) for machine in (second, third)]
+        words = ", ".join(f"{gap:.1f}" for gap in gaps)
+        tell(f"others: the longest time without a reply after the loss of a link, a machine, and the third one before `restart`: {words} s")
+        service.hush()
     must_be_none(end(service))
+
+
+def must_see_nothing(service, machine):
+    """Checks that `restart` finds nothing to do while printers draw and no brick was away."""
+    status = service.restart(machine).wait()
+    if status != 0 or "behind" in machine.run("ls", f"/run/s10-standby/{service.name}"):
+        raise Failed(f"restart finds something to do: status {status}: {service.place.entries(machine)}")
+
+
+def without_link(service, log, first, other):
+    """Cuts the link between the serving machine and another one, which must not serve. Returns the longest time without a reply."""
+    before = service.said(other).count("serving on")
+    since = time.time()
+    service.place.block(first, other)
+    time.sleep(AWAY)
+    gap = longest_gap(log, since)
+    if service.said(other).count("serving on") != before:
+        raise Failed("a machine serves that reaches the third one alone")
+    service.place.unblock()
+    return gap
+
+
+def restart_when_quiet(service, machine):
+    """Checks that `restart` waits for the end of the printers, and that the brick that was away then gets all calls."""
+    place = service.place
+    place.until(lambda: set("".join(place.entries(machine))) - {"0"}, "no brick lacks calls")
+    place.wait_for_bricks(machine)
+    opened = service.said(machine).count("opening ")
+    again = service.restart(machine, stderr=subprocess.PIPE, text=True)
+    time.sleep(15)
+    if again.poll() is not None or service.said(machine).count("opening ") != opened:
+        raise Failed(f"restart does not wait for a quiet moment: {again.communicate()[1]}")
+    service.hush()
+    said = again.communicate(timeout=PATIENCE)[1]
+    if "started again" not in said:
+        raise Failed(f"restart says {said}")
+    place.until(lambda: place.is_healed(machine), "not healed", PATIENCE)
 
 
 def without(service, log, machine):
     """Loses a machine that does not serve, and joins it. Returns the longest time without a reply."""
     since = time.time()
     lose(service, machine, "power")
-    time.sleep(12)
+    time.sleep(AWAY)
     gap = longest_gap(log, since)
     join(service, machine, "power")
     return gap
+
+
+def alone(place, name, count, _):
+    """Both machines that do not serve are lost: no new request gets a reply until one of them is back."""
+    service = Service(place, name)
+    service.begin()
+    log = service.ask(place.printers, PRINTERS)
+    for _ in range(count):
+        first = service.holder()
+        lost_ones = [it for it in place.trio if it is not first]
+        time.sleep(chance.uniform(0.5, 2))
+        for machine in lost_ones:
+            lose(service, machine, "power")
+        time.sleep(AWAY)
+        since = time.time()
+        time.sleep(3)
+        if any(kind == "new" for at, _, _, kind in replies(log) if at > since):
+            raise Failed("a machine alone replies to a new request")
+        since = time.time()
+        join(service, lost_ones[0], "power", 2)
+        tell(f"alone: first reply {service.first_reply(log, since) - since:.1f} s after a machine began to start")
+        join(service, lost_ones[1], "power")
+        restart(service, place.trio[0])
+    must_be_none(end(service))
+
+
+def hung(place, name, count, _):
+    """The server and takeover hang on a machine whose mount still answers: no other machine serves until they go on or end."""
+    service = Service(place, name)
+    service.begin()
+    log = service.ask(place.printers, PRINTERS)
+    for _ in range(count):
+        machine = service.holder()
+        others = [it for it in place.trio if it is not machine]
+        before = [service.said(it).count("serving on") for it in others]
+        time.sleep(chance.uniform(0.5, 2))
+        service.hang(machine)
+        since = time.time()
+        time.sleep(2 * AWAY)
+        if [service.said(it).count("serving on") for it in others] != before:
+            raise Failed("another machine serves while one hangs")
+        machine.signal(signal.SIGCONT)
+        tell(f"hung: for {2 * AWAY} s; first reply {service.first_reply(log, since + 2 * AWAY) - since - 2 * AWAY:.1f} s after it went on")
+    must_be_none(end(service))
 
 
 # Several ledgers.
@@ -338,7 +402,35 @@ def three(place, name, count, _):
     must_be_none(faults)
 
 
-PARTS = {"wrong": wrong, "right": right, "lost": lost, "link": link, "brick": brick, "three": three}
+# The size of the ledger.
+
+
+def size(place, name, _, sizes):
+    """The serving machine is lost with a ledger of many calls."""
+    for calls in map(int, sizes):
+        service = Service(place, f"{name}.{calls}")
+        service.next = 100 * MILLION
+        # The calls are of a day in the past.
+        service.values["DAYS_AHEAD"] = 100_000
+        machine = place.trio[0]
+        service.create()
+        scaling.fill(f"{place.room}/ledger", calls)
+        machine.run("cp", f"{place.room}/ledger", service.seen_by(machine))
+        began = time.monotonic()
+        machine.run(PROGRAM, "audit", "--ledger", service.seen_by(machine))
+        audited = time.monotonic() - began
+        for it in place.trio:
+            service.start(it)
+        log = service.ask(place.printers, PRINTERS)
+        service.first_reply(log, 0)
+        for way in ("killed", "power"):
+            lose_and_join(service, log, way)
+        os.remove(f"{place.room}/ledger")
+        tell(f"size: {calls} calls, an audit on the volume takes {audited:.1f} s")
+        must_be_none(end(service))
+
+
+PARTS = {"wrong": wrong, "right": right, "lost": lost, "others": others, "alone": alone, "hung": hung, "three": three, "size": size}
 
 
 def lacking():
@@ -366,7 +458,9 @@ def main():
     place = Machines(tempfile.mkdtemp())
     words = sys.argv[2:] or SHORT
     try:
+        began = time.monotonic()
         place.set_up(STANDBY / "volume")
+        tell(f"set up: {time.monotonic() - began:.0f} s")
         for at, word in enumerate(LONG if words == ["long"] else words):
             word, _, ways = word.partition(":")
             part, _, count = word.partition("=")
