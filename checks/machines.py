@@ -31,10 +31,10 @@ VOLUME = "s10"
 PATIENCE = 120
 
 
-def run(*words, check=True, timeout=PATIENCE):
-    """Runs a command. Returns what it printed on both outputs."""
+def run(*words, check=True, timeout=PATIENCE, stderr=subprocess.STDOUT):
+    """Runs a command. Returns what it printed, by default also on standard error."""
     words = [str(word) for word in words]
-    done = subprocess.run(words, text=True, stdout=subprocess.PIPE, stderr=subprocess.STDOUT, timeout=timeout, check=False)
+    done = subprocess.run(words, text=True, stdout=subprocess.PIPE, stderr=stderr, timeout=timeout, check=False)
     if check and done.returncode:
         raise Failed(f"{' '.join(words)}: status {done.returncode}: {done.stdout}")
     return done.stdout

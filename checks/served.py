@@ -186,10 +186,13 @@ class Service:
     def kept(self):
         """Returns the identifiers of the ledger, which nobody serves, by number. Raises Failed if one was issued twice there."""
         machine = self.machines[-1]
-        audit = machine.run(PROGRAM, "audit", "--ledger", self.seen_by(machine), check=False)
-        if not audit.splitlines()[-1].startswith("ledger ok "):
+        # Standard error has the progress of the opening of a large ledger.
+        options = {"check": False, "timeout": 600, "stderr": subprocess.DEVNULL}
+        audit = machine.run(PROGRAM, "audit", "--ledger", self.seen_by(machine), **options)
+        if not audit.startswith("ledger ok "):
             raise Failed(f"{self.name}: {audit}")
-        rows = [line.split() for line in machine.run(PROGRAM, "report", "--ledger", self.seen_by(machine), "--issues").splitlines()[1:]]
+        report = machine.run(PROGRAM, "report", "--ledger", self.seen_by(machine), "--issues", **options)
+        rows = [line.split() for line in report.splitlines()[1:]]
         if len({row[4] for row in rows}) != len(rows):
             raise Failed(f"{self.name}: an identifier was issued twice")
         return {int(row[3]): row[4] for row in rows}

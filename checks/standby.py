@@ -34,7 +34,7 @@ from pathlib import Path
 
 import machines
 import scaling
-from machines import Machines, children, run
+from machines import Machines, children
 from served import MILLION, PATIENCE, PORT, STANDBY, Service, replies
 from serving import PROGRAM, Failed
 
@@ -43,7 +43,7 @@ PRINTERS = int(os.environ.get("PRINTERS", "8"))
 # has; it is cut off and joined again; the same, and all of it stands still meanwhile; the same, and takeover alone stands still, so
 # that its server goes on.
 LOSSES = ("killed", "power", "half-written", "cut", "still", "unguarded")
-SHORT = ["wrong", "lost=6", "others"]
+SHORT = ["wrong", "lost=7", "others"]
 LONG = ["wrong=2", "right=2", "lost=20", "others=2", "alone", "hung", "three=3"]
 # Seconds for which what does not serve is lost.
 AWAY = 12
@@ -87,8 +87,11 @@ def lose(service, machine, way):
         time.sleep(chance.uniform(0.01, 0.2))
     if way == "unguarded":
         service.signal(machine, signal.SIGSTOP)
-    if way != "killed":
+    if way not in ("killed", "ended"):
         machine.link(False)
+    if way == "ended":
+        service.signal(machine, signal.SIGTERM)
+        service.lost(machine)
     if way == "still":
         machine.signal(signal.SIGSTOP)
     if way in ("killed", "power", "half-written"):
@@ -105,6 +108,8 @@ def join(service, machine, way, bricks=3):
         machine.boot()
         service.place.wait_for_bricks(machine, bricks)
         machine.attach()
+        service.start(machine)
+    if way == "ended":
         service.start(machine)
     if way == "still":
         machine.signal(signal.SIGCONT)
@@ -153,7 +158,7 @@ def lost(place, name, count, ways):
     for at in range(count):
         way = ways[at % len(ways)]
         took.setdefault(way, []).append(lose_and_join(service, log, way))
-        if at % 4 == 3:
+        if at % 8 == 7:
             restart(service, place.trio[0])
     for way, seconds in took.items():
         middle = statistics.median(seconds)
