@@ -39,7 +39,8 @@ class Service:
         self.logs, self.turns, self.asking, self.running = [], [], [], {}
         self.next = MILLION
         # Settings of contrib/standby that differ from those of `settings`.
-        self.values = {"VOLUME": VOLUME, "LEDGER": f"{name}/ledger", "ADDRESS": self.address, "RUN_AS": USER, "QUIET": 3, "PATIENCE": 0}
+        self.values = {"VOLUME": VOLUME, "LEDGER": f"{name}/ledger", "ADDRESS": self.address, "RUN_AS": USER, "HEAL": 3}
+        self.values |= {"QUIET": 3, "PATIENCE": 0}
 
     # The ledger and its servers.
 

@@ -43,7 +43,7 @@ PRINTERS = int(os.environ.get("PRINTERS", "8"))
 # has; it is cut off and joined again; the same, and all of it stands still meanwhile; the same, and takeover alone stands still, so
 # that its server goes on.
 LOSSES = ("killed", "power", "half-written", "cut", "still", "unguarded")
-SHORT = ["wrong", "lost=7", "others"]
+SHORT = ["wrong", "lost=4:power,half-written,unguarded,ended", "others"]
 LONG = ["wrong=2", "right=2", "lost=20", "others=2", "alone", "hung", "three=3"]
 # Seconds for which what does not serve is lost.
 AWAY = 12
@@ -147,7 +147,7 @@ def lose_and_join(service, log, way):
 
 
 def lost(place, name, count, ways):
-    """The serving machine is lost, in these ways in turn. Most are lost before the one before is healed."""
+    """The serving machine is lost, in these ways in turn."""
     ways = ways or LOSSES
     service = Service(place, name)
     service.begin()
@@ -158,8 +158,8 @@ def lost(place, name, count, ways):
     for at in range(count):
         way = ways[at % len(ways)]
         took.setdefault(way, []).append(lose_and_join(service, log, way))
-        if at % 8 == 7:
-            restart(service, place.trio[0])
+        # Before all bricks have all calls, the loss of the only machine that has them ends the service until it is back.
+        restart(service, place.trio[0])
     for way, seconds in took.items():
         middle = statistics.median(seconds)
         tell(f"{way}: {len(seconds)} times, first reply after {min(seconds):.1f} to {max(seconds):.1f} s, median {middle:.1f} s")
