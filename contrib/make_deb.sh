@@ -191,6 +191,9 @@ make_program() {
     for piece in __init__.py libs10.py; do
         put 644 "$contrib/python/s10client/$piece" "$doc/examples/s10client/$piece"
     done
+    for piece in "$contrib"/standby/*; do
+        put 644 "$piece" "$doc/examples/standby/$(basename "$piece")"
+    done
     write_scripts
     finish <<END
 Depends: $(needs_of "$tree/usr/bin/s10")
