@@ -41,8 +41,8 @@ from serving import PROGRAM, Failed
 PRINTERS = int(os.environ.get("PRINTERS", "8"))
 # How the serving machine is lost: its processes are killed; it is without power; the same in a write that only one of the two others
 # has; it is cut off and joined again; the same, and all of it stands still meanwhile; the same, and takeover alone stands still, so
-# that its server goes on.
-LOSSES = ("killed", "power", "half-written", "cut", "still", "unguarded")
+# that its server goes on; takeover is ended, as before an upgrade.
+LOSSES = ("killed", "power", "half-written", "cut", "still", "unguarded", "ended")
 SHORT = ["wrong", "lost=4:power,half-written,unguarded,ended", "others"]
 LONG = ["wrong=2", "right=2", "lost=20", "others=2", "alone", "hung", "three=3"]
 # Seconds for which what does not serve is lost.
@@ -430,6 +430,7 @@ def size(place, name, _, sizes):
         service.first_reply(log, 0)
         for way in ("killed", "power"):
             lose_and_join(service, log, way)
+            restart(service, machine)
         os.remove(f"{place.room}/ledger")
         tell(f"size: {calls} calls, an audit on the volume takes {audited:.1f} s")
         must_be_none(end(service))
