@@ -5,6 +5,8 @@
 #     bash checks/gate.sh                               everything
 #     bash checks/gate.sh --checks [PROGRAM [NAME..]]   the checks alone, or those of these names, over a program that is built
 #
+# GATE_STANDBY=1 has the check `standby` run too. On a busy machine GlusterFS may not start in time, which then fails it.
+#
 # Each check has a line with its seconds. Its output is shown if it fails; what it skipped is always shown. A check is skipped if
 # the machine lacks a tool that it needs, if it wants root and there is none, if there is no program, or if it might not end in
 # the minutes that the gate has, GATE_MINUTES or 170. This fails nothing, except under CI (CI=true) for the checks of GATE_MUST:
@@ -48,7 +50,7 @@ is_new_python() {
 }
 
 # Prints the first of these tools that the machine lacks. `python3` must not be older than the scripts. `program` and `library`
-# are what was built.
+# are what was built, `asked` is the wish for a check that is not always run.
 lacking() { # TOOL..
     local tool
     for tool in "$@"; do
@@ -56,6 +58,7 @@ lacking() { # TOOL..
             root) [ "$(id -u)" = 0 ] || { echo root; return; } ;;
             program) [ -x "$s10" ] || { echo program; return; } ;;
             library) [ -e "$library" ] || { echo 'C library'; return; } ;;
+            asked) [ -n "${GATE_STANDBY:-}" ] || { echo 'wish for it: GATE_STANDBY=1'; return; } ;;
             git) git -C "$top" rev-parse -q --verify HEAD >/dev/null 2>&1 || { echo 'git with this repository'; return; } ;;
             python3) is_new_python || { echo 'python3 from 3.10 on'; return; } ;;
             *) command -v "$tool" >/dev/null || { echo "$tool"; return; } ;;
@@ -186,7 +189,7 @@ run_checks() {
     check together 900 'program python3' env TMPDIR="$memory" python3 "$checks/together.py" "$s10"
     check snapshots 300 'program python3' env TMPDIR="$memory" python3 "$checks/snapshots.py" "$s10"
     check shards 900 'program python3' env TMPDIR="$memory" bash "$checks/shards.sh" "$s10" 2000
-    check standby 900 'program python3 root unshare nsenter ip bridge nft arping glusterd gluster mount.glusterfs' \
+    check standby 900 'asked program python3 root unshare nsenter ip bridge nft arping glusterd gluster mount.glusterfs' \
         python3 "$checks/standby.py" "$s10"
     check sizes 1200 'program python3' env TMPDIR="$memory" python3 "$checks/sizes.py" "$s10"
     check package 900 'program python3 git' bash "$checks/package.sh" "$s10"
